@@ -1,0 +1,11 @@
+pub mod Answers
+pub mod Limits
+pub mod Kinds
+pub mod Lists
+pub mod Graph
+pub mod Tokens
+pub mod Forms
+pub mod Notice
+pub mod Table
+pub mod Book
+pub mod Ledger
