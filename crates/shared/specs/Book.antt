@@ -11,7 +11,7 @@ use Rattle.shared.specs.Graph.{Edge, joins, _⊕_, bitOf, flipped, without}
 use Rattle.shared.specs.Kinds.{Hash}
 use Rattle.shared.specs.Lists.{sameList, memb, apart, upFrom, kept, firstFrom, firstAnswer, _then_, _orElse_, isFound, at, at2}
 use Rattle.shared.specs.Notice.{Setting, Kind, Step, bucket, single, noticeText}
-use Rattle.shared.specs.Table.{Part, h0, h1, edge, slotOf, overflows, used}
+use Rattle.shared.specs.Table.{Part, h0, h1, edge, slotOf, overflows, entriesUsed}
 
 -- a part with its setting; a slot is empty or holds one
 abbrev pub Held : Type 0
@@ -181,11 +181,11 @@ raised b = record { slot = b .slot; row = b .row; seed = b .seed; number = suc (
 abbrev pub lastNumber : ℕ
 lastNumber = 4000000000
 
-module _ (z : Sizes) (hash : Hash) (kind : Kind) where
-  -- the last check of each call: the notice fits its buffer
-  abbrev pub told : ℕ → Book → List Step → Outcome
-  told room b steps = unless (ltb room (length (noticeText kind (suc (b .number)) steps))) 11 λ _. done (raised b) steps
+-- the last check of each call: the notice fits its buffer
+abbrev pub told : Kind → ℕ → Book → List Step → Outcome
+told kind room b steps = unless (ltb room (length (noticeText kind (suc (b .number)) steps))) 11 λ _. done (raised b) steps
 
+module _ (z : Sizes) (hash : Hash) (kind : Kind) where
   -- the checks of each call in their order, each over all steps before the next
   abbrev pub called : Book → ℕ → Call → Outcome
   called b room (enter k v) =
@@ -195,13 +195,13 @@ module _ (z : Sizes) (hash : Hash) (kind : Kind) where
       given (chain z hash (b .slot) k) 7 λ c.
       given (placed z hash (kind .blank) before b (c .0) (k, v) (c .1)) 9 λ r.
       unless (overflows z (b .seed) (r .1)) 10 λ _.
-      told room (r .0) (r .1)
+      told kind room (r .0) (r .1)
   called b room (change k v) =
       given (whereIs z (b .slot) k) 6 λ p.
-      told room (slots b (at2 (b .slot) (p .0) (p .1) (some (k, v)))) (single (p .0) (slotOf hash (b .seed (p .0)) k) v ∷ [])
+      told kind room (slots b (at2 (b .slot) (p .0) (p .1) (some (k, v)))) (single (p .0) (slotOf hash (b .seed (p .0)) k) v ∷ [])
   called b room (strike k) =
       given (whereIs z (b .slot) k) 6 λ p.
-      told room (slots b (at2 (b .slot) (p .0) (p .1) none)) []
+      told kind room (slots b (at2 (b .slot) (p .0) (p .1) none)) []
 
   abbrev pub answered : Bool → Book → Request → Outcome
   answered shut b q =
@@ -210,19 +210,23 @@ module _ (z : Sizes) (hash : Hash) (kind : Kind) where
       unless (eqb (b .number) lastNumber) 12 λ _.
       called b (length (q .buffer)) (q .call)
 
-  -- What a call answers and leaves: the filled length, the book, the sheet with the call's number, and the buffer with the
-  -- notice at its front and its rest as it was. A refused call leaves everything as it was.
-  pub record Left : Type 0 where
-    pub answer : Answer
-    pub book : Book
-    pub sheet : ℕ
-    pub buffer : List ℕ
+-- What a call answers and leaves: the filled length, the book, the sheet with the call's number, and the buffer with the
+-- notice at its front and its rest as it was. A refused call leaves everything as it was.
+pub record Left : Type 0 where
+  pub answer : Answer
+  pub book : Book
+  pub sheet : ℕ
+  pub buffer : List ℕ
 
-  abbrev pub left : Book → Request → Outcome → Left
-  left b q (refused n) = record { answer = refusedWith n; book = b; sheet = q .sheet; buffer = q .buffer }
-  left b q (done after steps) =
-      let text = noticeText kind (after .number) steps in
-      record { answer = accepted (length text ∷ []); book = after; sheet = after .number; buffer = text ++ drop (length text) (q .buffer) }
+abbrev pub left : Kind → Book → Request → Outcome → Left
+left kind b q (refused n) = record { answer = refusedWith n; book = b; sheet = q .sheet; buffer = q .buffer }
+left kind b q (done after steps) =
+    let text = noticeText kind (after .number) steps in
+    record { answer = accepted (length text ∷ []); book = after; sheet = after .number; buffer = text ++ drop (length text) (q .buffer) }
+
+-- an enter, a change or a strike, whole
+abbrev pub leaves : Bool → Sizes → Hash → Kind → Book → Request → Left
+leaves shut z hash kind b q = left kind b q (answered z hash kind shut b q)
 
 -- Tell: a standing part's setting, from the book
 abbrev pub lookup : Part → List Held → Option Setting
@@ -238,4 +242,4 @@ tell shut z b k = cond shut (refusedWith 2) (toldSetting (lookup k (standing z (
 
 -- Closing: standing parts, number and overflow entries used; a shut book gives three zeros
 abbrev pub closing : Bool → Sizes → Book → List ℕ
-closing shut z b = cond shut (0 ∷ 0 ∷ 0 ∷ []) (length (standing z (b .slot)) ∷ b .number ∷ used z (b .seed) ∷ [])
+closing shut z b = cond shut (0 ∷ 0 ∷ 0 ∷ []) (length (standing z (b .slot)) ∷ b .number ∷ entriesUsed z (b .seed) ∷ [])

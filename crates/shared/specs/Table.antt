@@ -78,11 +78,11 @@ entries seed [] = 0
 entries seed (j ∷ js) = cond (ltb 30 (seed j)) 1 0 + entries seed js
 
 module _ (z : Sizes) where
-  abbrev pub used : (ℕ → ℕ) → ℕ
-  used seed = entries seed (upFrom 0 (z .buckets))
+  abbrev pub entriesUsed : (ℕ → ℕ) → ℕ
+  entriesUsed seed = entries seed (upFrom 0 (z .buckets))
 
   abbrev pub tooMany : (ℕ → ℕ) → Bool
-  tooMany seed = ltb (z .overflow) (used seed)
+  tooMany seed = ltb (z .overflow) (entriesUsed seed)
 
   -- after some step more entries are used than there are
   abbrev pub overflows : (ℕ → ℕ) → List Step → Bool
@@ -128,8 +128,8 @@ takenRead z blank t (Ok m) = taken z blank t m
 takenRead z blank t (Err f) = unread f
 
 -- take as a call: of a text
-abbrev pub take : Bool → Sizes → Kind → Table → List ℕ → Taking
-take shut z kind t text = barring shut 2 λ _. takenRead z (kind .blank) t (readNotice kind text)
+abbrev pub takeText : Bool → Sizes → Kind → Table → List ℕ → Taking
+takeText shut z kind t text = barring shut 2 λ _. takenRead z (kind .blank) t (readNotice kind text)
 
 -- what it answers, the notice's number where it is taken, and the table that it leaves
 abbrev pub takeAnswer : Taking → Answer
