@@ -7,7 +7,6 @@ use lib.Dec.{eqb}
 use Rattle.shared.specs.Lists.{Among}
 
 infixl 30 _⊕_
-
 abbrev pub Edge : Type 0
 Edge = ℕ × ℕ
 

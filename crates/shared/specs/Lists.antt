@@ -56,13 +56,11 @@ none then f = none
 some x then f = f x
 
 infixl 20 _then_
-
 abbrev pub _orElse_ : {A : Type 0} → Option A → Option A → Option A
 none orElse y = y
 some x orElse y = some x
 
 infixl 20 _orElse_
-
 abbrev pub isFound : {A : Type 0} → Option A → Bool
 isFound none = false
 isFound (some x) = true

@@ -50,10 +50,10 @@ abbrev pub bucketForm : Kind → Form BucketParts
 bucketForm kind =
     trail
     (pair
-     (pair (pair (lead gap small) (lead gap small)) (lead (mark Space ∷ mark Open ∷ []) (series 3 (settingForm kind))))
-     (pair
-      (lead (mark Close ∷ mark Space ∷ opening (codes "a")) (ascending 65535))
-      (lead (mark Space ∷ opening (codes "b")) (ascending 65535))))
+    (pair (pair (lead gap small) (lead gap small)) (lead (mark Space ∷ mark Open ∷ []) (series 3 (settingForm kind))))
+    (pair
+    (lead (mark Close ∷ mark Space ∷ opening (codes "a")) (ascending 65535))
+    (lead (mark Space ∷ opening (codes "b")) (ascending 65535))))
     lineEnd
 
 -- ` j i (..))`, behind the word slot
@@ -75,7 +75,7 @@ stepAt kind text at =
     let t = tokenOf (drop at text) in
     cond (isWord (codes "bucket") t) (andThen (bucketForm kind .reads text (at + size t)) (λ x. Ok (asBucket (x .0), x .1)))
     (cond (isWord (codes "slot") t) (andThen (slotForm kind .reads text (at + size t)) (λ x. Ok (asSingle (x .0), x .1)))
-     (wrong t at))
+    (wrong t at))
 
 abbrev pub stepTokens : Kind → Step → List Tok
 stepTokens kind (bucket j s vs pa pb) = word (codes "bucket") ∷ bucketForm kind .tokens (((j, s), vs), (pa, pb))

@@ -40,7 +40,13 @@ impl Sizes {
             && overflow <= 256
             && turn <= 15;
         if lawful {
-            Ok(Sizes { buckets, a, b, overflow, turn })
+            Ok(Sizes {
+                buckets,
+                a,
+                b,
+                overflow,
+                turn,
+            })
         } else {
             Err(Refusal::SizeOutside)
         }

@@ -4,10 +4,8 @@ use mathlib.Core.List.{List, [], _∷_}
 use mathlib.Core.Path.{_≡_}
 use Prim.Native.Nat.{ℕ, _+_, _*_, _/_, _%_, _^_, _<_}
 use lib.Bits.{bitXor}
-use lib.Dec.{ltb, leb}
+use lib.Dec.{ltb}
 use Rattle.std.specs.Iters.{folded}
-use Rattle.std.specs.declared.option.Option.{Option}
-use Rattle.std.specs.declared.option.Option.the-variants.{Some, None}
 use Rattle.shared.specs.Kinds.{Hash}
 
 -- what a family hashes: the seed's high byte, its low byte, then the part's bytes
