@@ -27,7 +27,8 @@ pub trait PartKind: Copy {
 }
 
 // A kind of setting (the values of the table): each setting has one fixed list of numbers from 0 to 65,535, all equally
-// many, 1 to 4; two settings are the same exactly when their lists are. `lawful` tells which lists are settings.
+// many, 1 to 4; two settings are the same exactly when their lists are. `lawful` tells which lists are settings, and
+// `blanks` is the list of the blank.
 pub trait SettingKind: Copy {
     ghost numbers: { Self → List ℕ };
 
@@ -35,7 +36,7 @@ pub trait SettingKind: Copy {
 
     ghost count: { ℕ };
 
-    ghost nought: { Self };
+    ghost blanks: { List ℕ };
 
     law some: { 1 ≤ count };
 
@@ -49,6 +50,8 @@ pub trait SettingKind: Copy {
 
     law own: { (s : Self) → lawful (numbers s) ≡ true };
 
+    law blank_lawful: { lawful blanks ≡ true };
+
     law read_back: { (vs : List ℕ) → lawful vs ≡ true → (s : Self) × (numbers s ≡ vs) };
 
     // How many numbers each setting has.
@@ -57,7 +60,7 @@ pub trait SettingKind: Copy {
 
     // The setting of a slot that holds none.
     fn blank() -> Self
-        ensures { λ r. ⌜ r ≡ nought ⌝ };
+        ensures { λ r. ⌜ numbers r ≡ blanks ⌝ };
 
     // The number at `i`, 0 past the last.
     fn number_at(&self, i: usize) -> u16
