@@ -1,6 +1,9 @@
 -- An answer as numbers: 0 and its values where a call is accepted, else the refusal's number and what it carries.
 use mathlib.Core.List.{List, [], _∷_}
 use Prim.Native.Nat.{ℕ}
+use mathlib.Core.Option.{Option, none, some}
+use Rattle.std.specs.declared.option.Option.{Option as CodeOption}
+use Rattle.std.specs.declared.option.Option.the-variants.{Some, None}
 use Rattle.std.specs.declared.result.Result.{Result}
 use Rattle.std.specs.declared.result.Result.the-variants.{Ok, Err}
 use Rattle.shared.specs.declared.refusal.Cause.{Cause}
@@ -72,3 +75,8 @@ valuesOf BucketTwice = []
 abbrev pub answer : {X : Type 0} → (X → List ℕ) → Result X Refusal → Answer
 answer values (Ok x) = accepted (values x)
 answer values (Err e) = (numberOf e, valuesOf e)
+
+-- an optional answer, as the rules have it
+abbrev pub optional : {X : Type 0} → CodeOption X → Option X
+optional (Some x) = some x
+optional None = none

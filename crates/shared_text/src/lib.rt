@@ -1,0 +1,2 @@
+// The texts that the book writes and the controllers read.
+pub mod number;
