@@ -4,7 +4,7 @@ use mathlib.Core.List.{List, [], _∷_, _++_, map}
 use mathlib.Core.Option.{Option, none, some}
 use Prim.Native.Nat.{ℕ}
 use lib.Chars.{codes}
-use lib.Dec.{lit≤}
+use lib.Dec.{T, leb, leb→le}
 use lib.ListN.{replicate, take, getD}
 use Rattle.shared.specs.declared.sizes.Sizes.{Sizes}
 use Rattle.shared.specs.Book.{Book, Request, Left, leaves, freshBook, seedFor, enter}
@@ -18,15 +18,36 @@ use mathlib.Core.Bool.{true, false}
 abbrev pub setNumber : Kind
 setNumber = record { count = 1; lawful = λ vs. true; blank = 0 ∷ [] }
 
--- one bucket, eight bits in each row, no overflow entry, turn 0
+-- sizes with turn 0, each limit by a test that is computed
+abbrev pub sized : (n a b w : ℕ) → T (leb 1 n) → T (leb n 4096) → T (leb 1 a) → T (leb a 32768) → T (leb 1 b) → T (leb b 32768) → T (leb w 256) → Sizes
+sized n a b w n1 n2 a1 a2 b1 b2 w2 = record {
+  buckets = n;
+  a = a;
+  b = b;
+  overflow = w;
+  turn = 0;
+  «some_buckets» = leb→le 1 n n1;
+  «few_buckets» = leb→le n 4096 n2;
+  «some_a» = leb→le 1 a a1;
+  «few_a» = leb→le a 32768 a2;
+  «some_b» = leb→le 1 b b1;
+  «few_b» = leb→le b 32768 b2;
+  «few_overflow» = leb→le w 256 w2;
+  «few_turn» = leb→le 0 15 tt;
+}
+
+-- one bucket and eight bits in each row; the same with an overflow entry; one bit in each row; two buckets
 abbrev pub oneBucket : Sizes
-oneBucket = record { buckets = 1; a = 8; b = 8; overflow = 0; turn = 0; «some_buckets» = lit≤ tt; «few_buckets» = lit≤ tt; «some_a» = lit≤ tt; «few_a» = lit≤ tt; «some_b» = lit≤ tt; «few_b» = lit≤ tt; «few_overflow» = lit≤ tt; «few_turn» = lit≤ tt }
+oneBucket = sized 1 8 8 0 tt tt tt tt tt tt tt
+
+abbrev pub oneEntry : Sizes
+oneEntry = sized 1 8 8 1 tt tt tt tt tt tt tt
 
 abbrev pub oneBit : Sizes
-oneBit = record { buckets = 1; a = 1; b = 1; overflow = 0; turn = 0; «some_buckets» = lit≤ tt; «few_buckets» = lit≤ tt; «some_a» = lit≤ tt; «few_a» = lit≤ tt; «some_b» = lit≤ tt; «few_b» = lit≤ tt; «few_overflow» = lit≤ tt; «few_turn» = lit≤ tt }
+oneBit = sized 1 1 1 0 tt tt tt tt tt tt tt
 
 abbrev pub twoBuckets : Sizes
-twoBuckets = record { buckets = 2; a = 8; b = 16; overflow = 1; turn = 0; «some_buckets» = lit≤ tt; «few_buckets» = lit≤ tt; «some_a» = lit≤ tt; «few_a» = lit≤ tt; «some_b» = lit≤ tt; «few_b» = lit≤ tt; «few_overflow» = lit≤ tt; «few_turn» = lit≤ tt }
+twoBuckets = sized 2 8 16 1 tt tt tt tt tt tt tt
 
 -- entering a part of one letter, with a blank sheet and a buffer of 100 bytes
 abbrev pub put : List ℕ → ℕ → Request
@@ -63,8 +84,7 @@ examples =
     ∷ (entering oneBucket pearson (put (codes "E") 5) (put (codes "D") 4 ∷ put (codes "C") 3 ∷ put (codes "B") 2 ∷ put (codes "A") 1 ∷ []), 7 ∷ [])
     ∷ (entering oneBit pearson (put (codes "B") 2) (put (codes "A") 1 ∷ []), 8 ∷ [])
     ∷ (entering oneBucket (heldBack 256) (put (codes "E") 2) (put (codes "A") 1 ∷ []), 9 ∷ [])
-    ∷ (entering oneBucket (heldBack 31) (put (codes "E") 2) (put (codes "A") 1 ∷ []), 10 ∷ [])
-    ∷ (listOf (seedFor (heldBack 31) (codes "A" ∷ codes "E" ∷ [])), 31 ∷ [])
+    ∷ (entering oneBucket (heldBack 31) (put (codes "E") 2) (put (codes "A") 1 ∷ []) ++ entering oneEntry (heldBack 31) (put (codes "E") 2) (put (codes "A") 1 ∷ []), 10 ∷ 0 ∷ 61 ∷ line (codes "(notice 2 1)") ++ line (codes "(bucket 0 31 ((0) (2) (1) (0)) (a) (b))") ++ line (codes "(end 2)"))
     ∷ (entering twoBuckets pearson (put (codes "I") 5) (put (codes "F") 4 ∷ put (codes "E") 3 ∷ put (codes "B") 2 ∷ put (codes "A") 1 ∷ []), 0 ∷ 63 ∷ line (codes "(notice 5 1)") ++ line (codes "(bucket 1 0 ((0) (0) (5) (0)) (a) (b 13))") ++ line (codes "(end 5)"))
     ∷ []
 

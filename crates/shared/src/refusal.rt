@@ -93,7 +93,7 @@ impl Refusal {
 pub impl From<SettingFault> for Refusal as RefusalFromSettingFault {
     ghost converts = { λ _ y. y ≡ NoSuchSetting };
 
-    fn from(_fault: SettingFault) -> Refusal {
-        Refusal::NoSuchSetting
+    fn from(_fault: SettingFault) -> Self {
+        Self::NoSuchSetting
     }
 }

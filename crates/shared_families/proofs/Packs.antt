@@ -1,6 +1,6 @@
 -- The lanes side by side are the four lanes, and their number is below 2^32.
 use mathlib.Core.Path.{_≡_, refl}
-use mathlib.Core.List.{List, [], _∷_}
+use mathlib.Core.List.{List}
 use Prim.Native.Nat.{ℕ, _+_, _*_, _/_, _^_, _<_}
 use native.Mathlib.Nat.{mod-lt}
 use native.Mathlib.Omega.{arith}
@@ -9,12 +9,12 @@ use lib.Dec.{lit<}
 use Rattle.std.specs.Iters.{folded}
 use Rattle.shared_families.specs.declared.pearson.Lanes.{Lanes}
 use Rattle.shared_families.specs.Hashes.{lane, laneStep, packed, pearson, seeded}
-use Rattle.shared_families.specs.Lanes.{lanesStep}
+use Rattle.shared_families.specs.Lanes.{lanesStep, lanesNumber}
 use Rattle.shared_families.proofs.Folds.{folded-below, folded-seen}
 
 -- lanes that have absorbed the seed's bytes and the part's pack to the family's number
-pub packed-lanes : (l : Lanes) (s : ℕ) (k : List ℕ) → l ≡ folded lanesStep (record { first = 0; second = 1; third = 2; fourth = 3 }) (seeded s k) → packed (l .first) (l .second) (l .third) (l .fourth) ≡ pearson s k
-packed-lanes l s k e =
+pub lanes-number : (l : Lanes) (s : ℕ) (k : List ℕ) → l ≡ folded lanesStep (record { first = 0; second = 1; third = 2; fourth = 3 }) (seeded s k) → lanesNumber l ≡ pearson s k
+lanes-number l s k e =
     let start : Lanes = record { first = 0; second = 1; third = 2; fourth = 3 } in
     let a = folded-seen (λ (l : Lanes). l .first) lanesStep laneStep (λ l b. refl) (seeded s k) start in
     let b = folded-seen (λ (l : Lanes). l .second) lanesStep laneStep (λ l b. refl) (seeded s k) start in
@@ -32,6 +32,3 @@ pearson-low s bytes =
     let c = lane-low 2 (seeded s bytes) (lit< tt) in
     let d = lane-low 3 (seeded s bytes) (lit< tt) in
     omega arith
-
-pub four-same : {a b c d w x y z : ℕ} → a ≡ w → b ≡ x → c ≡ y → d ≡ z → a ∷ b ∷ c ∷ d ∷ [] ≡ w ∷ x ∷ y ∷ z ∷ []
-four-same p q r s = cc

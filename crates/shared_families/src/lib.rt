@@ -3,3 +3,4 @@ mod absorb;
 pub mod fnv;
 pub mod held_back;
 pub mod pearson;
+pub mod table;

@@ -1,282 +1,15 @@
 // The Pearson family: four lanes that absorb the seed's two bytes and the part's, each through one table.
 ghost use mathlib.Core.Path.{_≡_};
-ghost use Prim.Native.Nat.{ℕ};
-ghost use Rattle.shared_families.specs.Hashes.{triangular, Permutes, packed, pearson};
-ghost use Rattle.shared_families.specs.Lanes.{lanesStep};
+ghost use Prim.Native.Nat.{ℕ, _+_, _*_};
+ghost use Rattle.shared_families.specs.Hashes.{pearson};
+ghost use Rattle.shared_families.specs.Lanes.{lanesStep, lanesNumber};
 use crate::absorb::Absorb;
 use crate::absorb::Four;
 use crate::absorb::absorb_part;
 use crate::absorb::absorb_places;
+use crate::table::table_entry;
 use shared::kinds::HashFamily;
 use shared::kinds::PartKind;
-
-// The triangular numbers mod 256.
-const TABLE: [u8; 256] = [
-    0,
-    1,
-    3,
-    6,
-    10,
-    15,
-    21,
-    28,
-    36,
-    45,
-    55,
-    66,
-    78,
-    91,
-    105,
-    120,
-    136,
-    153,
-    171,
-    190,
-    210,
-    231,
-    253,
-    20,
-    44,
-    69,
-    95,
-    122,
-    150,
-    179,
-    209,
-    240,
-    16,
-    49,
-    83,
-    118,
-    154,
-    191,
-    229,
-    12,
-    52,
-    93,
-    135,
-    178,
-    222,
-    11,
-    57,
-    104,
-    152,
-    201,
-    251,
-    46,
-    98,
-    151,
-    205,
-    4,
-    60,
-    117,
-    175,
-    234,
-    38,
-    99,
-    161,
-    224,
-    32,
-    97,
-    163,
-    230,
-    42,
-    111,
-    181,
-    252,
-    68,
-    141,
-    215,
-    34,
-    110,
-    187,
-    9,
-    88,
-    168,
-    249,
-    75,
-    158,
-    242,
-    71,
-    157,
-    244,
-    76,
-    165,
-    255,
-    90,
-    182,
-    19,
-    113,
-    208,
-    48,
-    145,
-    243,
-    86,
-    186,
-    31,
-    133,
-    236,
-    84,
-    189,
-    39,
-    146,
-    254,
-    107,
-    217,
-    72,
-    184,
-    41,
-    155,
-    14,
-    130,
-    247,
-    109,
-    228,
-    92,
-    213,
-    79,
-    202,
-    70,
-    195,
-    65,
-    192,
-    64,
-    193,
-    67,
-    198,
-    74,
-    207,
-    85,
-    220,
-    100,
-    237,
-    119,
-    2,
-    142,
-    27,
-    169,
-    56,
-    200,
-    89,
-    235,
-    126,
-    18,
-    167,
-    61,
-    212,
-    108,
-    5,
-    159,
-    58,
-    214,
-    115,
-    17,
-    176,
-    80,
-    241,
-    147,
-    54,
-    218,
-    127,
-    37,
-    204,
-    116,
-    29,
-    199,
-    114,
-    30,
-    203,
-    121,
-    40,
-    216,
-    137,
-    59,
-    238,
-    162,
-    87,
-    13,
-    196,
-    124,
-    53,
-    239,
-    170,
-    102,
-    35,
-    225,
-    160,
-    96,
-    33,
-    227,
-    166,
-    106,
-    47,
-    245,
-    188,
-    132,
-    77,
-    23,
-    226,
-    174,
-    123,
-    73,
-    24,
-    232,
-    185,
-    139,
-    94,
-    50,
-    7,
-    221,
-    180,
-    140,
-    101,
-    63,
-    26,
-    246,
-    211,
-    177,
-    144,
-    112,
-    81,
-    51,
-    22,
-    250,
-    223,
-    197,
-    172,
-    148,
-    125,
-    103,
-    82,
-    62,
-    43,
-    25,
-    8,
-    248,
-    233,
-    219,
-    206,
-    194,
-    183,
-    173,
-    164,
-    156,
-    149,
-    143,
-    138,
-    134,
-    131,
-    129,
-    128,
-];
-
-// The table's entry at `i`. Each byte value stands in the table just once.
-pub fn table_entry(i: u8) -> u8
-    ensures rule { λ r. ⌜ r ≡ triangular i ⌝ }
-    ensures once { λ _. ⌜ Permutes triangular ⌝ }
-{
-    TABLE[i as usize]
-}
 
 #[derive(Clone, Copy)]
 struct Lanes {
@@ -296,7 +29,7 @@ const START: Lanes = Lanes {
 impl Lanes {
     // The lanes as one number, the first most significant.
     fn number(self) -> u32
-        ensures { λ r. ⌜ r ≡ packed (self .first) (self .second) (self .third) (self .fourth) ⌝ }
+        ensures { λ r. ⌜ r ≡ lanesNumber self ⌝ }
     {
         u32::from_be_bytes([self.first, self.second, self.third, self.fourth])
     }
@@ -315,6 +48,23 @@ impl Absorb for Lanes as LanesAbsorb {
     }
 }
 
+// The lanes of a part under a seed.
+fn lanes_of<P: PartKind>(seed: u16, part: &P) -> Lanes
+    ensures { λ r. ⌜ lanesNumber r ≡ pearson seed (P·PartKind .bytes (now (part .entry))) ⌝ }
+{
+    absorb_part(START, seed, part)
+}
+
+// The lanes of a part under the four seeds that place it.
+fn lanes_four<P: PartKind>(turn: u8, part: &P) -> Four<Lanes>
+    ensures w { λ r. ⌜ lanesNumber (r .w) ≡ pearson (256 + 4 * turn) (P·PartKind .bytes (now (part .entry))) ⌝ }
+    ensures x { λ r. ⌜ lanesNumber (r .x) ≡ pearson (257 + 4 * turn) (P·PartKind .bytes (now (part .entry))) ⌝ }
+    ensures y { λ r. ⌜ lanesNumber (r .y) ≡ pearson (258 + 4 * turn) (P·PartKind .bytes (now (part .entry))) ⌝ }
+    ensures z { λ r. ⌜ lanesNumber (r .z) ≡ pearson (259 + 4 * turn) (P·PartKind .bytes (now (part .entry))) ⌝ }
+{
+    absorb_places(START, turn, part)
+}
+
 #[derive(Clone, Copy, Debug)]
 pub struct Pearson;
 
@@ -322,11 +72,11 @@ pub impl HashFamily for Pearson as PearsonFamily {
     ghost hash = { λ _. pearson };
 
     fn hash_of<P: PartKind>(&self, seed: u16, part: &P) -> u32 {
-        absorb_part(START, seed, part).number()
+        lanes_of(seed, part).number()
     }
 
     fn hash_four<P: PartKind>(&self, turn: u8, part: &P) -> [u32; 4] {
-        let Four { w, x, y, z } = absorb_places(START, turn, part);
+        let Four { w, x, y, z } = lanes_four(turn, part);
         [w.number(), x.number(), y.number(), z.number()]
     }
 }

@@ -6,6 +6,8 @@ ghost use Rattle.shared_kinds.specs.Settings.{isSetNumber};
 use shared::kinds::SettingKind;
 use shared::refusal::SettingFault;
 
+const WIDTH: usize = 1;
+
 #[derive(Clone, Copy, PartialEq, Eq, Debug)]
 pub struct SetNumber {
     pub value: u16,
@@ -22,7 +24,7 @@ pub impl SettingKind for SetNumber as SetNumberSetting {
     ghost blanks = { 0 ∷ [] };
 
     fn width() -> usize {
-        1
+        WIDTH
     }
 
     fn blank() -> SetNumber {

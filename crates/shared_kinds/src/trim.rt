@@ -9,6 +9,8 @@ use shared::refusal::Refusal;
 use shared::refusal::RefusalFromSettingFault;
 use shared::refusal::SettingFault;
 
+const WIDTH: usize = 3;
+
 #[derive(Clone, Copy, PartialEq, Eq, Debug)]
 pub struct Trim {
     pub advance: u16,
@@ -40,7 +42,7 @@ pub impl SettingKind for Trim as TrimSetting {
     ghost blanks = { 0 ∷ 1000 ∷ 0 ∷ [] };
 
     fn width() -> usize {
-        3
+        WIDTH
     }
 
     fn blank() -> Trim {

@@ -37,9 +37,9 @@ module _ (input : List ℕ) (start i : ℕ) (before : start ≤ i) where
       let more : i - start + 1 ≡ i + 1 - start = omega arith in
       let byte : getD (drop start input) (i - start) 0 ≡ getD input i 0 = getD-drop start input (i - start) 0 ∙ ap (λ (n : ℕ). getD input n 0) at-i in
       let longer : begun input start i ++ (getD input i 0 ∷ []) ≡ begun input start (i + 1) =
-              ap (λ (b : ℕ). begun input start i ++ (b ∷ [])) (sym byte)
-              ∙ sym (take-more (drop start input) (i - start) 0 (simp length-drop (omega arith)))
-              ∙ ap (λ (n : ℕ). take n (drop start input)) more in
+      ap (λ (b : ℕ). begun input start i ++ (b ∷ [])) (sym byte)
+      ∙ sym (take-more (drop start input) (i - start) 0 (simp length-drop (omega arith)))
+      ∙ ap (λ (n : ℕ). take n (drop start input)) more in
       byte-at h
       ∙ cond-false (eqb (getD input i 0) 10) (lineText (lineHash (begun input start i)) ++ textOfLines [] (drop (i + 1) input)) (textOfLines (begun input start i ++ (getD input i 0 ∷ [])) (drop (i + 1) input)) (ne-eqb (getD input i 0) 10 e)
       ∙ ap (λ (l : List ℕ). textOfLines l (drop (i + 1) input)) longer

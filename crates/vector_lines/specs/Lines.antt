@@ -47,10 +47,12 @@ familyHash hash text =
 abbrev pub lineHash : List ℕ → Option ℕ
 lineHash line =
     elim (insideOf (codes "(fnv ") line) [
-      some text ↦ some (fnv1a text)
+      | some text ↦ some (fnv1a text)
       | none ↦ elim (insideOf (codes "(hash fnv ") line) [
-        some text ↦ familyHash fnv text
-        | none ↦ elim (insideOf (codes "(hash pearson ") line) [ some text ↦ familyHash pearson text | none ↦ none ] ] ]
+        | some text ↦ familyHash fnv text
+        | none ↦ elim (insideOf (codes "(hash pearson ") line) [ some text ↦ familyHash pearson text | none ↦ none ]
+      ]
+    ]
 
 abbrev pub hexDigit : ℕ → ℕ
 hexDigit d = cond (ltb d 10) (48 + d) (55 + d)

@@ -79,7 +79,11 @@ fn hex_digit(value: u32) -> u8
     ensures { λ r. ⌜ r ≡ hexDigit (value % 16) ⌝ }
 {
     let digit = (value % 16) as u8;
-    if digit < 10 { b'0' + digit } else { b'A' - 10 + digit }
+    if digit < 10 {
+        b'0' + digit
+    } else {
+        b'A' - 10 + digit
+    }
 }
 
 // Eight hexadecimal digits, the most significant first.

@@ -10,8 +10,9 @@ loop-i-again c =
     let l = c .loop-i in
     let input = c .args .input .now in
     elim (c .if-byte-eq10 .came) [
-      then-byte-eq10·in-Continue-answer-line w ↦ (omega (arith, w .start-is), turn-ends input (l .start) (l .i) (l .inv .0) (vec-items (l .out)) _ (l .inv .1) _ _ (c .loop-i-test .taken) (w .if-byte-eq10 .taken) (w .start-is) (ap vec-items (w .out-is) ∙ w .in-Continue-answer-line .ensures tt))
-      | else-byte-eq10 w ↦ (omega (arith, w .start-is, l .inv .0), turn-goes-on input (l .start) (l .i) (l .inv .0) (vec-items (l .out)) _ (l .inv .1) _ _ (c .loop-i-test .taken) (w .if-byte-eq10 .left) (w .start-is) (ap vec-items (w .out-is))) ]
+      | then-byte-eq10·in-Continue-answer-line w ↦ (omega (arith, w .start-is), turn-ends input (l .start) (l .i) (l .inv .0) (vec-items (l .out)) _ (l .inv .1) _ _ (c .loop-i-test .taken) (w .if-byte-eq10 .taken) (w .start-is) (ap vec-items (w .out-is) ∙ w .in-Continue-answer-line .ensures tt))
+      | else-byte-eq10 w ↦ (omega (arith, w .start-is, l .inv .0), turn-goes-on input (l .start) (l .i) (l .inv .0) (vec-items (l .out)) _ (l .inv .1) _ _ (c .loop-i-test .taken) (w .if-byte-eq10 .left) (w .start-is) (ap vec-items (w .out-is)))
+    ]
 
 pub returns-in-Continue-push-line : need.returns-in-Continue-push-line
 returns-in-Continue-push-line c =

@@ -31,10 +31,10 @@ returns-then-value-high c =
 pub loop-byte-again : need.loop-byte-again
 loop-byte-again c =
     let word = c .args .word .now in
-    let i = c .loop-byte .byte-index in
-    ( c .if-value-high .left
-    , sym (read-step word i (c .loop-byte .value) (c .loop-byte-test .taken)) ∙ c .loop-byte .inv .1
-    , sym (digits-step word i true (c .loop-byte-test .taken) (between-true 48 57 (getD word i 0) (c .if-byte-lt48 .left) (c .if-byte-gt57 .left))) ∙ c .loop-byte .inv .2
+    let i = c .loop-byte .byte-index in (
+      c .if-value-high .left,
+      sym (read-step word i (c .loop-byte .value) (c .loop-byte-test .taken)) ∙ c .loop-byte .inv .1,
+      sym (digits-step word i true (c .loop-byte-test .taken) (between-true 48 57 (getD word i 0) (c .if-byte-lt48 .left) (c .if-byte-gt57 .left))) ∙ c .loop-byte .inv .2,
     )
 
 whole : (c : After-loop-byte) → readOn 0 (c .args .word .now) ≡ c .loop-byte .value
@@ -50,8 +50,8 @@ returns c =
     let e = whole (need.at·returns c .After-loop-byte) in
     let more : 0 < length word = search needs in
     let p : Plain word = record {
-        digits = sym (c .loop-byte .inv .2) ∙ at-drop-all allDigits word (c .loop-byte .byte-index) (c .loop-byte-test .left);
-        some-digit = more;
-        first = λ z. ⊎-elim (λ q. omega (arith, q)) (λ q. absurd (q z)) (c .else-word-eq48 .either);
-      } in
+      digits = sym (c .loop-byte .inv .2) ∙ at-drop-all allDigits word (c .loop-byte .byte-index) (c .loop-byte-test .left);
+      some-digit = more;
+      first = λ z. ⊎-elim (λ q. omega (arith, q)) (λ q. absurd (q z)) (c .else-word-eq48 .either);
+    } in
     sym (number-some (c .args .low) (c .args .high) word (plain-from word p) (omega (arith, e)) (omega (arith, e)) ∙ ap (λ n. some n) e)
