@@ -10,6 +10,7 @@ use lib.Dec.{leb}
 use lib.ListN.{length, getD, drop}
 use Rattle.std.proofs.shelf.Lists.{at-drop-more, at-drop-all}
 use Rattle.std.proofs.shelf.Tests.{cond-true, cond-false, cases-bool, cases-eq, and-parts, and-from, and-left, and-right, leb-true, le-leb, lt-leb, both-ways}
+use Rattle.shared.proofs.Words.{between-from, between-parts}
 use Rattle.shared.specs.Limits.{between}
 use Rattle.shared.specs.Tokens.{digit, readOn, allDigits, plainDigits, numberIn}
 
@@ -17,49 +18,14 @@ pub readOn-ge : (n : ℕ) (ds : List ℕ) → n ≤ readOn n ds
 readOn-ge n [] = omega arith
 readOn-ge n (c ∷ cs) = omega (arith, readOn-ge (n * 10 + (c - 48)) cs)
 
-pub between-true : (low high n : ℕ) → low ≤ n → n ≤ high → between low high n ≡ true
-between-true low high n l h = and-from (leb low n) (leb n high) (le-leb low n l) (le-leb n high h)
-
-pub between-parts : (low high n : ℕ) → between low high n ≡ true → (low ≤ n) × (n ≤ high)
-between-parts low high n t = let p = and-parts (leb low n) (leb n high) t in (leb-true low n (p .0), leb-true n high (p .1))
-
 pub digit-out : (c : ℕ) → (c < 48) ⊎ (57 < c) → digit c ≡ false
 digit-out c e = ⊎-elim (λ l. and-left (leb 48 c) (leb c 57) (lt-leb 48 c l)) (λ h. and-right (leb 48 c) (leb c 57) (lt-leb c 57 h)) e
-
--- digits with no zero in front of others: as a test, and as facts
-pub record Plain (w : List ℕ) : Type 0 where
-  pub digits : allDigits w ≡ true
-  pub some-digit : 0 < length w
-  pub first : getD w 0 0 ≡ 48 → length w ≡ 1
-
-pub plain-parts : (w : List ℕ) → plainDigits w ≡ true → Plain w
-plain-parts [] e = absurd (both-ways false refl e)
-plain-parts (c ∷ []) e = record { digits = and-from (digit c) true e refl; some-digit = omega arith; first = λ _. refl }
-plain-parts (c ∷ d ∷ ds) e =
-    let p = and-parts (between 49 57 c) (allDigits (d ∷ ds)) e in
-    let b = between-parts 49 57 c (p .0) in
-    record {
-      digits = and-from (digit c) (allDigits (d ∷ ds)) (between-true 48 57 c (omega arith) (b .1)) (p .1);
-      some-digit = omega arith;
-      first = λ z. absurd (omega arith);
-    }
-
-pub plain-from : (w : List ℕ) → Plain w → plainDigits w ≡ true
-plain-from [] p = absurd (omega (arith, p .some-digit))
-plain-from (c ∷ []) p = and-parts (digit c) true (p .digits) .0
-plain-from (c ∷ d ∷ ds) p =
-    let q = and-parts (digit c) (allDigits (d ∷ ds)) (p .digits) in
-    let b = between-parts 48 57 c (q .0) in
-    and-from (between 49 57 c) (allDigits (d ∷ ds)) (between-true 49 57 c (above b) (b .1)) (q .1)
-  where
-    above : (48 ≤ c) × (c ≤ 57) → 49 ≤ c
-    above b = ⊎-elim (λ e. absurd (omega (arith, p .first e))) (λ n. grind arith) (cases-eq c 48)
 
 -- what numberIn answers
 pub number-some : (low high : ℕ) (w : List ℕ) → plainDigits w ≡ true → low ≤ readOn 0 w → readOn 0 w ≤ high → numberIn low high w ≡ some (readOn 0 w)
 number-some low high w p l h =
     cond-true (plainDigits w && between low high (readOn 0 w)) (some (readOn 0 w)) none
-    (and-from (plainDigits w) (between low high (readOn 0 w)) p (between-true low high (readOn 0 w) l h))
+    (and-from (plainDigits w) (between low high (readOn 0 w)) p (between-from low high (readOn 0 w) l h))
 
 pub number-not : (low high : ℕ) (w : List ℕ) → (plainDigits w ≡ true → low ≤ readOn 0 w → readOn 0 w ≤ high → ⊥) → none ≡ numberIn low high w
 number-not low high w never =

@@ -9,7 +9,8 @@ use lib.ListN.{length, getD, drop}
 use Rattle.std.proofs.shelf.Lists.{at-drop-all}
 use Rattle.std.proofs.shelf.Tests.{both-ways}
 use Rattle.shared.specs.Tokens.{allDigits, readOn}
-use Rattle.shared_text.proofs.Words.{Plain, plain-from, plain-parts, number-some, number-not, between-true, readOn-ge, read-step, digits-step, digit-out}
+use Rattle.shared.proofs.Words.{Plain, plain-from, plain-parts, between-from}
+use Rattle.shared_text.proofs.Words.{number-some, number-not, readOn-ge, read-step, digits-step, digit-out}
 use Rattle.shared_text.proofs.number.read_number.Needs as need
 use Rattle.shared_text.proofs.number.read_number.Needs.{After-loop-byte, then-byte-lt48·by·then-byte-lt48, then-byte-lt48·by·else-byte-lt48·then-byte-gt57}
 
@@ -34,7 +35,7 @@ loop-byte-again c =
     let i = c .loop-byte .byte-index in (
       c .if-value-high .left,
       sym (read-step word i (c .loop-byte .value) (c .loop-byte-test .taken)) ∙ c .loop-byte .inv .1,
-      sym (digits-step word i true (c .loop-byte-test .taken) (between-true 48 57 (getD word i 0) (c .if-byte-lt48 .left) (c .if-byte-gt57 .left))) ∙ c .loop-byte .inv .2,
+      sym (digits-step word i true (c .loop-byte-test .taken) (between-from 48 57 (getD word i 0) (c .if-byte-lt48 .left) (c .if-byte-gt57 .left))) ∙ c .loop-byte .inv .2,
     )
 
 whole : (c : After-loop-byte) → readOn 0 (c .args .word .now) ≡ c .loop-byte .value
@@ -51,7 +52,7 @@ returns c =
     let more : 0 < length word = search needs in
     let p : Plain word = record {
       digits = sym (c .loop-byte .inv .2) ∙ at-drop-all allDigits word (c .loop-byte .byte-index) (c .loop-byte-test .left);
-      some-digit = more;
+      some = more;
       first = λ z. ⊎-elim (λ q. omega (arith, q)) (λ q. absurd (q z)) (c .else-word-eq48 .either);
     } in
     sym (number-some (c .args .low) (c .args .high) word (plain-from word p) (omega (arith, e)) (omega (arith, e)) ∙ ap (λ n. some n) e)

@@ -1,0 +1,11 @@
+pub mod Sound
+pub mod Chains
+pub mod History
+pub mod Premises
+pub mod Lives
+pub mod Progress
+pub mod Midway
+pub mod Acceptance
+pub mod Ledgers
+pub mod Law
+pub mod Searches

@@ -1,0 +1,14 @@
+pub mod Numbers
+pub mod Readings
+pub mod Spelled
+pub mod Inverses
+pub mod Lexed
+pub mod Agrees
+pub mod Points
+pub mod Rows
+pub mod Begins
+pub mod Laws
+pub mod Notices
+pub mod Whole
+pub mod Faithful
+pub mod Settings
