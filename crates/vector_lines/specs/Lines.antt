@@ -6,31 +6,12 @@ use Prim.Native.Nat.{ℕ, suc, _+_, _/_, _%_, _^_}
 use lib.Chars.{codes}
 use lib.Dec.{eqb, ltb}
 use lib.ListN.{take, drop}
+use Rattle.line_forms.specs.Fronts.{insideOf, firstOf}
 use Rattle.shared.specs.Kinds.{Hash}
 use Rattle.shared.specs.Lists.{_then_}
 use Rattle.shared.specs.Tokens.{numberIn}
 use Rattle.shared_families.specs.Hashes.{fnv1a, fnv, pearson}
 use Rattle.shared_kinds.specs.Parts.{isPartNumber}
-
--- what is behind a front, where the text begins with it
-abbrev pub behind : List ℕ → List ℕ → Option (List ℕ)
-behind [] text = some text
-behind (f ∷ fs) [] = none
-behind (f ∷ fs) (b ∷ bs) = cond (eqb f b) (behind fs bs) none
-
--- what is before a closing bracket, where the text ends with it
-abbrev pub closed : List ℕ → Option (List ℕ)
-closed [] = none
-closed (b ∷ []) = cond (eqb b 41) (some []) none
-closed (b ∷ c ∷ bs) = closed (c ∷ bs) then (λ rest. some (b ∷ rest))
-
-abbrev pub insideOf : List ℕ → List ℕ → Option (List ℕ)
-insideOf front line = behind front line then closed
-
--- where the first space is, or the length
-abbrev pub spaceAt : List ℕ → ℕ
-spaceAt [] = 0
-spaceAt (b ∷ bs) = cond (eqb b 32) 0 (suc (spaceAt bs))
 
 -- a part number under a seed
 abbrev pub partHash : Hash → List ℕ → ℕ → Option ℕ
@@ -39,8 +20,8 @@ partHash hash part s = cond (isPartNumber part) (some (hash s part)) none
 -- a seed of 0 to 319, a space, and a part number
 abbrev pub familyHash : Hash → List ℕ → Option ℕ
 familyHash hash text =
-    let seed = take (spaceAt text) text in
-    let part = drop (spaceAt text + 1) text in
+    let seed = take (firstOf 32 text) text in
+    let part = drop (firstOf 32 text + 1) text in
     numberIn 0 319 seed then partHash hash part
 
 -- the hash that a line asks for

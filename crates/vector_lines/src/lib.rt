@@ -2,12 +2,13 @@
 ghost use mathlib.Core.Path.{_≡_};
 ghost use mathlib.Core.List.{[], _∷_, _++_};
 ghost use Prim.Native.Nat.{_%_};
-ghost use mathlib.Core.Option.{none, some};
 ghost use Rattle.std.specs.Of.Vec.{vec-items};
-ghost use Rattle.std.specs.Options.{Cases};
 ghost use Rattle.std.specs.Vec.{made};
 ghost use Rattle.shared.specs.Answers.{optional};
-ghost use Rattle.vector_lines.specs.Lines.{insideOf, spaceAt, partHash, familyHash, lineHash, hexDigit, hexDigits, lineText, textOfLines};
+ghost use Rattle.vector_lines.specs.Lines.{partHash, familyHash, lineHash, hexDigit, hexDigits, lineText, textOfLines};
+use line_forms::first_of;
+use line_forms::inside;
+use line_forms::push_line;
 use shared::kinds::HashFamily;
 use shared_families::fnv::Fnv;
 use shared_families::fnv::FnvFamily;
@@ -18,25 +19,6 @@ use shared_kinds::part_number::PartNumber;
 use shared_kinds::part_number::PartNumberPart;
 use shared_text::number::read_number;
 use std::alloc::AllocError;
-
-// What stands between `front` and the line's closing bracket.
-fn inside<'a>(line: &'a [u8], front: &[u8]) -> Option<&'a [u8]>
-    ensures { λ r. ⌜ Cases r (insideOf (now (front .entry)) (now (line .entry)) ≡ none) (λ x. insideOf (now (front .entry)) (now (line .entry)) ≡ some (now x)) ⌝ }
-{
-    line.strip_prefix(front)?.strip_suffix(b")")
-}
-
-// Where the first space is, or the length.
-fn space_at(text: &[u8]) -> usize
-    ensures { λ r. ⌜ r ≡ spaceAt (now (text .entry)) ⌝ }
-{
-    for (i, byte) in text.iter().enumerate() {
-        if *byte == b' ' {
-            return i;
-        }
-    }
-    text.len()
-}
 
 fn part_hash<F: HashFamily>(family: &F, text: &[u8], seed: u16) -> Option<u32>
     ensures { λ r. ⌜ optional r ≡ partHash (F·HashFamily .hash (now (family .entry))) (now (text .entry)) seed ⌝ }
@@ -51,7 +33,7 @@ fn part_hash<F: HashFamily>(family: &F, text: &[u8], seed: u16) -> Option<u32>
 fn family_hash<F: HashFamily>(family: &F, text: &[u8]) -> Option<u32>
     ensures { λ r. ⌜ optional r ≡ familyHash (F·HashFamily .hash (now (family .entry))) (now (text .entry)) ⌝ }
 {
-    let at = space_at(text);
+    let at = first_of(text, b' ');
     if at >= text.len() {
         return None;
     }
@@ -102,16 +84,7 @@ pub fn hex(n: u32) -> [u8; 8]
     ]
 }
 
-// `text` and the end of its line, put behind what `out` holds. Here and below only want of memory is an error.
-fn push_line(text: &[u8], out: &mut Vec<u8>) -> Result<(), AllocError>
-    ensures { λ r. ⌜ made r (λ _. vec-items (now (out .exit)) ≡ vec-items (now (out .entry)) ++ (now (text .entry) ++ (10 ∷ []))) ⌝ }
-{
-    out.extend_from_slice(text)?;
-    out.push(b'\n')?;
-    Ok(())
-}
-
-// What is printed of a line.
+// What is printed of a line. Here and below only want of memory is an error.
 fn answer_line(line: &[u8], out: &mut Vec<u8>) -> Result<(), AllocError>
     ensures { λ r. ⌜ made r (λ _. vec-items (now (out .exit)) ≡ vec-items (now (out .entry)) ++ lineText (lineHash (now (line .entry)))) ⌝ }
 {

@@ -1,7 +1,7 @@
 use mathlib.Core.List.{[], _∷_}
 use Rattle.std.proofs.shelf.Equals.{strip-prefix-is, strip-suffix-is}
-use Rattle.vector_lines.proofs.Fronts.{stripped-none, stripped-some, closed-by}
-use Rattle.vector_lines.proofs.inside.Needs as need
+use Rattle.line_forms.proofs.Fronts.{stripped-none, stripped-some, closed-by}
+use Rattle.line_forms.proofs.inside.Needs as need
 
 pub returns-in-Break-strip-prefix : need.returns-in-Break-strip-prefix
 returns-in-Break-strip-prefix c =

@@ -1,4 +1,4 @@
--- What stands behind a front, before a bracket and before a space.
+-- What stands behind a front, before a bracket and before a byte.
 use mathlib.Core.Path.{_≡_, refl, sym, ap, subst, _∙_}
 use mathlib.Core.Bool.{Bool, true, false, cond}
 use mathlib.Core.List.{List, [], _∷_, _++_}
@@ -14,10 +14,8 @@ use Rattle.std.specs.declared.option.Option.{Option as CodeOption}
 use Rattle.std.specs.declared.option.Option.the-variants.{Some, None}
 use Rattle.std.proofs.shelf.Lists.{at-drop-more, drop-all, take-rest}
 use Rattle.std.proofs.shelf.Tests.{cond-true, cond-false, eq-eqb, eqb-true, cases-bool}
-use Rattle.shared.specs.Kinds.{Hash}
-use Rattle.shared.specs.Tokens.{numberIn}
 use Rattle.shared.specs.Lists.{_then_}
-use Rattle.vector_lines.specs.Lines.{behind, closed, insideOf, spaceAt, partHash, familyHash}
+use Rattle.line_forms.specs.Fronts.{behind, closed, insideOf, firstOf}
 
 behind-is : (front rest : List ℕ) → behind front (front ++ rest) ≡ some rest
 behind-is [] rest = refl
@@ -72,29 +70,10 @@ pub closed-by : (front line rest : List ℕ) (r : CodeOption (RefT (List ℕ))) 
 closed-by front line rest None e never = inside-behind front line rest e ∙ closed-not rest never
 closed-by front line rest (Some x) e h = inside-behind front line rest e ∙ ap closed h ∙ closed-is (x .now)
 
--- the walk to the first space
-module _ (text : List ℕ) (i : ℕ) (so-far : spaceAt text ≡ i + spaceAt (drop i text)) where
-  pub space-more : i < length text → eqb (getD text i 0) 32 ≡ false → spaceAt text ≡ i + 1 + spaceAt (drop (i + 1) text)
-  space-more h t = let e = at-drop-more spaceAt text i 0 h ∙ cond-false (eqb (getD text i 0) 32) 0 (suc (spaceAt (drop (i + 1) text))) t in omega arith
+-- the walk to the byte
+module _ (c : ℕ) (text : List ℕ) (i : ℕ) (so-far : firstOf c text ≡ i + firstOf c (drop i text)) where
+  pub walk-more : i < length text → eqb (getD text i 0) c ≡ false → firstOf c text ≡ i + 1 + firstOf c (drop (i + 1) text)
+  walk-more h t = let e = at-drop-more (firstOf c) text i 0 h ∙ cond-false (eqb (getD text i 0) c) 0 (suc (firstOf c (drop (i + 1) text))) t in omega arith
 
-  pub space-here : i < length text → eqb (getD text i 0) 32 ≡ true → i ≡ spaceAt text
-  space-here h t = let e = at-drop-more spaceAt text i 0 h ∙ cond-true (eqb (getD text i 0) 32) 0 (suc (spaceAt (drop (i + 1) text))) t in omega arith
-
--- without a space there is no part
-then-none : {A : Type 0} (o : Option ℕ) (f : ℕ → Option A) → ((s : ℕ) → f s ≡ none) → none ≡ (o then f)
-then-none none f h = refl
-then-none (some s) f h = sym (h s)
-
-pub no-part : (hash : Hash) (text : List ℕ) → length text ≤ spaceAt text → none ≡ familyHash hash text
-no-part hash text h =
-    then-none (numberIn 0 319 (take (spaceAt text) text)) (partHash hash (drop (spaceAt text + 1) text))
-    (λ s. ap (λ (l : List ℕ). partHash hash l s) (drop-all (spaceAt text + 1) text (omega arith)))
-
--- a seed that was read, and the part behind the space, as slices have them
-pub family-by : (hash : Hash) (text : List ℕ) (i s : ℕ) (answer : Option ℕ) → i ≡ spaceAt text → some s ≡ numberIn 0 319 (take (i - 0) text) → answer ≡ partHash hash (take (length text - (i + 1)) (drop (i + 1) text)) s → answer ≡ familyHash hash text
-family-by hash text i s answer at-space seed part =
-    let same : i - 0 ≡ i = omega arith in
-    part
-    ∙ ap (λ (l : List ℕ). partHash hash l s) (take-rest text (i + 1))
-    ∙ ap (λ (o : Option ℕ). o then partHash hash (drop (i + 1) text)) (seed ∙ ap (λ (n : ℕ). numberIn 0 319 (take n text)) same)
-    ∙ ap (λ (n : ℕ). numberIn 0 319 (take n text) then partHash hash (drop (n + 1) text)) at-space
+  pub walk-here : i < length text → eqb (getD text i 0) c ≡ true → i ≡ firstOf c text
+  walk-here h t = let e = at-drop-more (firstOf c) text i 0 h ∙ cond-true (eqb (getD text i 0) c) 0 (suc (firstOf c (drop (i + 1) text))) t in omega arith
