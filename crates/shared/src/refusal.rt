@@ -1,7 +1,7 @@
 // The refusals, each with the number that it goes by in every text and document.
 ghost use mathlib.Core.Path.{_≡_};
 ghost use Rattle.shared.specs.Answers.{numberOf};
-ghost use Rattle.shared.specs.declared.refusal.Refusal.the-variants.{NoSuchSetting};
+ghost use Rattle.shared.specs.declared.refusal.Refusal.the-variants.{NoSuchSetting, Malformed};
 
 // The fault of a list of numbers that is no setting of its kind.
 #[derive(Clone, Copy, PartialEq, Eq, Debug)]
@@ -95,5 +95,14 @@ pub impl From<SettingFault> for Refusal as RefusalFromSettingFault {
 
     fn from(_fault: SettingFault) -> Self {
         Self::NoSuchSetting
+    }
+}
+
+// A wrong token of a notice, as the refusal of a call.
+pub impl From<Fault> for Refusal as RefusalFromFault {
+    ghost converts = { λ x y. y ≡ Malformed x };
+
+    fn from(fault: Fault) -> Self {
+        Self::Malformed(fault)
     }
 }

@@ -1,2 +1,4 @@
-// The texts that the book writes and the controllers read.
+// Tokens and number words, free of any grammar, and what a pass over a notice's steps sees.
+pub mod events;
 pub mod number;
+pub mod token;

@@ -1,0 +1,4 @@
+pub mod Pens
+pub mod Inks
+pub mod Rules
+pub mod Laws
