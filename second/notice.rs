@@ -227,7 +227,7 @@ impl<'t> Reader<'t> {
     fn list(&mut self, name: &[u8]) -> Result<Vec<u16>, Fault> {
         self.expect_all([Token::Open, Token::Word(name)])?;
         let mut places = Vec::new();
-        // The least number that still ascends; behind the largest number it allows no further one.
+        // The least place that still ascends. Behind the largest there is none, so that any number there is wrong.
         let mut least = 0;
         loop {
             match self.token()? {

@@ -65,18 +65,27 @@ impl Refusal {
     /// The refusal as an answer in numbers: only a text that is no notice says more than its number.
     pub fn answer(self) -> Vec<usize> {
         match self {
-            Refusal::NoNotice(fault) => vec![14, fault.place, fault.cause.number()],
+            Refusal::NoNotice(Fault { place, cause }) => [&[14, place], &cause.answer()[..]].concat(),
             other => vec![other.number()],
         }
     }
 }
 
 impl Cause {
-    pub fn number(self) -> usize {
+    pub fn name(self) -> &'static str {
         match self {
-            Cause::Byte => 0,
-            Cause::Word => 1,
-            Cause::Setting(_) => 2,
+            Cause::Byte => "byte",
+            Cause::Word => "word",
+            Cause::Setting(_) => "setting",
+        }
+    }
+
+    /// The cause in numbers: behind that of a setting comes the setting's own fault.
+    fn answer(self) -> Vec<usize> {
+        match self {
+            Cause::Byte => vec![0],
+            Cause::Word => vec![1],
+            Cause::Setting(fault) => vec![2, Refusal::NoSetting(fault).number()],
         }
     }
 }

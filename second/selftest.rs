@@ -7,6 +7,7 @@ use crate::hash::{Family, Fnv, HeldBack, Pearson, T, fnv1a};
 use crate::histories::{self, least_seed};
 use crate::kinds::{Part, PartNumber, SetNumber, Setting, Tag, Trim};
 use crate::notice::{LAST_NUMBER, Notice};
+use crate::noticecheck;
 use crate::refusal::{NoSuchSetting, Refusal};
 use crate::tables::Sizes;
 use crate::vectors;
@@ -27,6 +28,7 @@ pub fn run() -> io::Result<()> {
     shut_memory();
     sheets_and_the_last_number();
     texts_that_are_no_notices();
+    letters()?;
     notices_that_are_not_taken();
     println!("second selftest: published values and worked examples are met; {}", histories::run());
     Ok(())
@@ -279,9 +281,9 @@ fn sheets_and_the_last_number() {
     assert_eq!(blank.file(), 0);
 }
 
-const BYTE: usize = 0;
-const WORD: usize = 1;
-const SETTING: usize = 2;
+const BYTE: &[usize] = &[0];
+const WORD: &[usize] = &[1];
+const SETTING: &[usize] = &[2, 4];
 
 fn texts_that_are_no_notices() {
     // Each text stops being a notice at the mark.
@@ -318,12 +320,44 @@ fn texts_that_are_no_notices() {
         ("(notice 1 1)\n(bucket 0 0 ((0 1000 0) (0 1000 0) (0 1000 0) (0 1000 0)) (^b) (a))\n(end 1)\n", WORD),
         ("(notice 1 1)\n(bucket 0 0 ((0 1000 0) (0 1000 0) (0 1000 0) (0 1000 0)) (a 3 ^3) (b))\n(end 1)\n", WORD),
         ("(notice 1 1)\n(bucket 0 0 ((0 1000 0) (0 1000 0) (0 1000 0) (0 1000 0)) (a 3 ^) (b))\n(end 1)\n", WORD),
+        ("(notice 1 1)\n(bucket 0 0 ((0 1000 0) (0 1000 0) (0 1000 0) (0 1000 0)) (a 65535 ^7) (b))\n(end 1)\n", WORD),
+        ("(notice 1 1)\n(bucket 0 0 ((0 1000 0) (0 1000 0) (0 1000 0) (0 1000 0)) (a 65535 ^", WORD),
+        ("(notice 1 1)\n(bucket 0 0 ((0 1000 0) (0 1000 0) (0 1000 0) (0 1000 0)) (a 65535 ^) (b))\n(end 1)\n", WORD),
+        ("(notice 1 1)\n(bucket 0 0 ((0 1000 0) (0 1000 0) (0 1000 0) (0 1000 0)) (a 65535 ^?", BYTE),
+        ("(notice 1 1)\n(bucket 0 0 ((0 1000 0) (0 1000 0) (0 1000 0) (0 1000 0)) (a) (b 65535 ^65535))\n", WORD),
     ];
     for (marked, cause) in texts {
         let place = marked.find('^').expect("a mark");
         let fault = Notice::<Trim>::read(marked.replace('^', "").as_bytes()).expect_err(marked);
-        assert_eq!(Refusal::NoNotice(fault).answer(), [14, place, cause], "{marked:?}");
+        assert_eq!(Refusal::NoNotice(fault).answer(), [&[14, place], cause].concat(), "{marked:?}");
     }
+}
+
+fn letters() -> io::Result<()> {
+    let notice = "(notice 7 1)\n(slot 3 1 (600 500 9999))\n(end 7)\n";
+    let letter = |text: &str| format!("(letter {})\n{text}", text.len());
+    let answers: [(String, String); 13] = [
+        ("".into(), "".into()),
+        (letter(notice).repeat(2), notice.repeat(2)),
+        (letter(""), "(refused 14 0 word)\n".into()),
+        (letter("(notice 7 0)\r"), "(refused 14 12 byte)\n".into()),
+        (letter("(notice 7 1)\n(slot 3 1 (0 0 0))"), "(refused 14 23 setting)\n".into()),
+        (letter(&"(".repeat(65_536)), "(refused 14 1 word)\n".into()),
+        // A letter's bytes are no forms, whatever they look like; those behind a bad line are.
+        (letter(&letter(notice)), "(refused 14 1 word)\n".into()),
+        (format!("(letter 01)\n{}", letter(notice)), format!("(refused 14)\n{notice}")),
+        ("(letter 65537)\n\n)\n".into(), "(refused 14)\n".repeat(3)),
+        // An unfinished line, and a letter of which the last byte is missing.
+        (letter(notice) + "(letter 0)", format!("{notice}(refused 14)\n")),
+        ("(letter 2)\n\n\n".into(), "(refused 14 0 word)\n".into()),
+        ("(letter 3)\n\n\n".into(), "(refused 14)\n".into()),
+        // Of these letters, eleven bytes each, 95,325 are read and one byte of the next.
+        (letter("").repeat(96_000), "(refused 14 0 word)\n".repeat(95_325) + "(refused 14)\n"),
+    ];
+    for (input, output) in answers {
+        assert!(noticecheck::answers(input.as_bytes())? == output, "{:?}", input.get(..100).unwrap_or(&input));
+    }
+    Ok(())
 }
 
 fn notices_that_are_not_taken() {

@@ -8,6 +8,8 @@ use Rattle.std.specs.declared.result.Result.{Result}
 use Rattle.std.specs.declared.result.Result.the-variants.{Ok, Err}
 use Rattle.shared.specs.declared.refusal.Cause.the-variants as cause
 use Rattle.shared.specs.declared.refusal.Fault.{Fault}
+use Rattle.shared.specs.declared.refusal.Refusal.{Refusal}
+use Rattle.shared.specs.declared.refusal.Refusal.the-variants.{Malformed}
 use Rattle.shared.specs.Forms.{Form, andThen, lead, pair, series, ascending}
 use Rattle.shared.specs.Notice.{Setting, Kind, Notice, BucketParts, SlotParts, asBucket, asSingle, opening, gap, small, settingForm}
 use Rattle.shared.specs.Tokens.{Open, Close, Space, mark}
@@ -84,3 +86,8 @@ withNumber v r = andThen r (λ n. Ok (n, v))
 -- a notice's number alone
 abbrev pub noticeNumber : Result Notice Fault → Result ℕ Fault
 noticeNumber r = andThen r (λ m. Ok (m .0))
+
+-- a fault of the text as the refusal of a call that was given it
+abbrev pub refusing : {X : Type 0} → Result X Fault → Result X Refusal
+refusing (Ok x) = Ok x
+refusing (Err f) = Err (Malformed f)

@@ -1,10 +1,12 @@
 // The pass that sees nothing: it finds whether a text is a notice.
 ghost use mathlib.Core.Path.{_≡_};
 ghost use Rattle.shared.specs.Notice.{readNotice};
-ghost use Rattle.shared_notice.specs.Walks.{kindOf, noticeNumber};
+ghost use Rattle.shared_notice.specs.Walks.{kindOf, noticeNumber, refusing};
 use crate::notice::walk_notice;
 use shared::kinds::SettingKind;
 use shared::refusal::Fault;
+use shared::refusal::Refusal;
+use shared::refusal::RefusalFromFault;
 use shared_text::events::StepVisitor;
 
 #[derive(Clone, Copy)]
@@ -34,4 +36,12 @@ pub fn read_notice<S: SettingKind>(text: &[u8]) -> Result<u32, Fault>
 {
     let mut quiet = Quiet;
     walk_notice::<S, Quiet>(text, &mut quiet)
+}
+
+// The same as the answer of a call: a text that is no notice is refused with 14, with the fault inside.
+pub fn check_notice<S: SettingKind>(text: &[u8]) -> Result<u32, Refusal>
+    ensures { λ r. ⌜ r ≡ refusing (noticeNumber (readNotice (kindOf (S·SettingKind .count) (S·SettingKind .lawful) (S·SettingKind .blanks)) (now (text .entry)))) ⌝ }
+{
+    let number = read_notice::<S>(text)?;
+    Ok(number)
 }
