@@ -4,8 +4,8 @@ use Rattle.book_slots.specs.Slots.{slot_in}
 use Rattle.book_chains.proofs.Ways.{through}
 use Rattle.book_chains.proofs.+walk_from.Given as goal
 
-abbrev pub decreases-walk-from : goal.decreases-walk-from
-decreases-walk-from g l = l.moves
+abbrev pub decreases-walk_from : goal.decreases-walk_from
+decreases-walk_from g l = l.moves
 
 abbrev pub invariant-loop-i : goal.invariant-loop-i
 invariant-loop-i g l =

@@ -5,6 +5,6 @@ use Rattle.book_chains.proofs.chain_from.Goals as goal
 
 pub returns : goal.returns
 returns g c = record {
-  is = ap (λ (o : Option (List ℕ)). o then (λ is. some (c.args.first, is))) c.in-ok-slots.ensures.is;
-  shape = record { first = omega arith; moves = omega arith; slots = c.in-ok-slots.ensures.low };
+  is = ap (λ (o : Option (List ℕ)). o then (λ is. some (c.args.first, is))) c.in_ok-slots.ensures.is;
+  shape = record { first = omega arith; moves = omega arith; slots = c.in_ok-slots.ensures.low };
 }

@@ -5,8 +5,8 @@ use Rattle.book_joined.proofs.cache_ends.Goals as goal
 
 pub loop-i-preserved : goal.loop-i-preserved
 loop-i-preserved g c = (
-  mapped-more _ _ _ _ c.index-slots-i.result _ c.loop-i-test.true (omega arith) c.index-slots-i.is (ap (λ (e : Edge). e.0) c.slot-ends-a.ensures) c.loop-i.invariant.0,
-  mapped-more _ _ _ _ c.index-slots-i.result _ c.loop-i-test.true (omega arith) c.index-slots-i.is (ap (λ (e : Edge). e.1) c.slot-ends-a.ensures) c.loop-i.invariant.1,
+  mapped-more _ _ _ _ c.index-slots-i.result _ c.loop-i-test.true (omega arith) c.index-slots-i.is (ap (λ (e : Edge). e.0) c.slot_ends-a.ensures) c.loop-i.invariant.0,
+  mapped-more _ _ _ _ c.index-slots-i.result _ c.loop-i-test.true (omega arith) c.index-slots-i.is (ap (λ (e : Edge). e.1) c.slot_ends-a.ensures) c.loop-i.invariant.1,
 )
 
 pub returns : goal.returns

@@ -21,4 +21,4 @@ loop-count-smaller c =
 
 pub returns : goal.returns
 returns c p h =
-    ended c.args.ends-a.now c.args.ends-b.now c.round-count.new.marks c.args.start c.round-count.ensures.binary (c.round-count.ensures.good c.args.start c.loop-count.invariant.1) (c.round-count.ensures.even c.if-count-eq0.true) p
+    ended c.args.ends_a.now c.args.ends_b.now c.round-count.new.marks c.args.start c.round-count.ensures.binary (c.round-count.ensures.good c.args.start c.loop-count.invariant.1) (c.round-count.ensures.even c.if-count-eq0.true) p

@@ -20,6 +20,6 @@ returns g c kind =
     let short-blank : Short blank = omega (arith, short own.0, ap length own.1) in
     let steps = shown_steps c.args.sizes hash blank slot c.args.plan h c.args.words.now in
     c.finish.ensures
-    ∙ ruled_notice kind c.args.n (c.args.plan.moves + 1) steps c.new-ruler.result c.head.new.self c.show-steps.new.v c.end.new.self c.new-ruler.ensures c.head.ensures
-    (length-shown c.args.sizes hash blank slot c.args.plan h c.args.words.now) c.show-steps.ensures c.end.ensures
+    ∙ ruled_notice kind c.args.n (c.args.plan.moves + 1) steps c.new-ruler.result c.head.new.self c.show_steps.new.v c.end.new.self c.new-ruler.ensures c.head.ensures
+    (length-shown c.args.sizes hash blank slot c.args.plan h c.args.words.now) c.show_steps.ensures c.end.ensures
     (notice-few hash blank short-blank slot (slots-short bytes numbers short slots) h (short c.args.setting) c.args.sizes c.args.plan c.args.words.now kind c.args.n c.requires.fit.few)

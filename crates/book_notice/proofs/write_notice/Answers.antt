@@ -29,7 +29,7 @@ returns g c kind =
     let start = c.head.ensures ∙ ap (λ (k : ℕ). inked p (head_text n k)) (sym count) in
     let ink : q ≡ inked p text =
     c.end.ensures
-    ∙ ap (λ (x : Pen). inked x (end_text n)) (c.show-steps.ensures ∙ ap (λ (x : Pen). fold (λ r e. inked r (event_text e)) x (events_of steps)) start)
+    ∙ ap (λ (x : Pen). inked x (end_text n)) (c.show_steps.ensures ∙ ap (λ (x : Pen). fold (λ r e. inked r (event_text e)) x (events_of steps)) start)
     ∙ ink_notice p kind n steps in
     let done = ink_finished p q text c.finish.result made.start made.room ink c.finish.ensures.len in
     let lent = sym made.lender ∙ done.0 in

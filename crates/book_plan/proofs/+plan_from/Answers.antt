@@ -14,8 +14,8 @@ use Rattle.book_plan.proofs.Moves.{end_full, end_at, move_none, move_dead, move_
 use Rattle.book_plan.proofs.Puts.{placements_one, placements_more, made_one, made_more}
 use Rattle.book_plan.proofs.+plan_from.Goals as goal
 
-pub returns-in-err-spot : goal.returns-in-err-spot
-returns-in-err-spot g t c =
+pub returns-in_err-spot : goal.returns-in_err-spot
+returns-in_err-spot g t c =
     let z = c.args.sizes in
     let hash = g.F.HashFamily.hash c.args.family.now in
     let slots = c.args.slots.now in
@@ -24,12 +24,12 @@ returns-in-err-spot g t c =
     let m = c.args.moves in
     let h : HeldPart = (g.P.PartKind.bytes c.args.part, g.S.SettingKind.numbers c.args.setting) in
     record {
-      is = ap (plan_of slot h) c.from-residual.ensures ∙ end_full z hash slot j h c.args.picks m c.if-moves-eq0.true c.in-err-spot.ensures.is;
+      is = ap (plan_of slot h) c.from-residual.ensures ∙ end_full z hash slot j h c.args.picks m c.if-moves-eq0.true c.in_err-spot.ensures.is;
       made = subst (MadeIf z slot m) (sym c.from-residual.ensures) tt;
     }
 
-pub returns-in-err-seed : goal.returns-in-err-seed
-returns-in-err-seed g t c =
+pub returns-in_err-seed : goal.returns-in_err-seed
+returns-in_err-seed g t c =
     let z = c.args.sizes in
     let hash = g.F.HashFamily.hash c.args.family.now in
     let slots = c.args.slots.now in
@@ -38,8 +38,8 @@ returns-in-err-seed g t c =
     let m = c.args.moves in
     let h : HeldPart = (g.P.PartKind.bytes c.args.part, g.S.SettingKind.numbers c.args.setting) in
     record {
-      is = ap (plan_of slot h) c.from-residual-in-err-seed.ensures ∙ end_at z hash slot j h c.args.picks m c.in-ok-spot.spot none c.if-moves-eq0.true c.in-ok-spot.ensures.is c.in-err-seed.ensures;
-      made = subst (MadeIf z slot m) (sym c.from-residual-in-err-seed.ensures) tt;
+      is = ap (plan_of slot h) c.from-residual-in_err-seed.ensures ∙ end_at z hash slot j h c.args.picks m c.in_ok-spot.spot none c.if-moves-eq0.true c.in_ok-spot.ensures.is c.in_err-seed.ensures;
+      made = subst (MadeIf z slot m) (sym c.from-residual-in_err-seed.ensures) tt;
     }
 
 pub returns-then-moves-eq0 : goal.returns-then-moves-eq0
@@ -51,17 +51,17 @@ returns-then-moves-eq0 g t c =
     let j = c.args.bucket in
     let m = c.args.moves in
     let h : HeldPart = (g.P.PartKind.bytes c.args.part, g.S.SettingKind.numbers c.args.setting) in
-    let i = c.in-ok-spot.spot in
-    let s = c.in-ok-seed.seed in
+    let i = c.in_ok-spot.spot in
+    let s = c.in_ok-seed.seed in
     let fresh : Plan = record { moves = 0; buckets = 0 ∷ 0 ∷ 0 ∷ 0 ∷ 0 ∷ []; spots = 0 ∷ 0 ∷ 0 ∷ 0 ∷ 0 ∷ []; seeds = 0 ∷ 0 ∷ 0 ∷ 0 ∷ 0 ∷ [] } in
     record {
       is = ap (λ (p : Plan). some (placements_of slot p h)) c.put.ensures.is ∙ ap some (placements_one slot fresh 0 j i s (omega arith) (refl, refl, refl) h refl)
-          ∙ end_at z hash slot j h c.args.picks m i (some s) c.if-moves-eq0.true c.in-ok-spot.ensures.is c.in-ok-seed.ensures;
-      made = subst (λ (n : ℕ). Made z slot n c.put.result) (sym c.if-moves-eq0.true) (subst (Made z slot 0) (sym c.put.ensures.is) (made_one slot fresh 0 j i s (omega arith) (refl, refl, refl) h z c.requires.into c.in-ok-spot.ensures.low refl));
+          ∙ end_at z hash slot j h c.args.picks m i (some s) c.if-moves-eq0.true c.in_ok-spot.ensures.is c.in_ok-seed.ensures;
+      made = subst (λ (n : ℕ). Made z slot n c.put.result) (sym c.if-moves-eq0.true) (subst (Made z slot 0) (sym c.put.ensures.is) (made_one slot fresh 0 j i s (omega arith) (refl, refl, refl) h z c.requires.into c.in_ok-spot.ensures.low refl));
     }
 
-pub returns-in-default : goal.returns-in-default
-returns-in-default g t c =
+pub returns-in_default : goal.returns-in_default
+returns-in_default g t c =
     let z = c.args.sizes in
     let hash = g.F.HashFamily.hash c.args.family.now in
     let slots = c.args.slots.now in
@@ -73,12 +73,12 @@ returns-in-default g t c =
     let i = get_or c.args.picks (m - 1) 0 in
     let low = c.requires.picks (m - 1) in
     record {
-      is = move_none z hash slot j h c.args.picks m i pos refl (seen_as g.P.PartKind.bytes g.S.SettingKind.numbers slots j i c.index-slots-bucket.result Empty (omega (arith, c.requires.long, c.requires.into, low)) low c.index-slots-bucket.is c.in-default.is);
+      is = move_none z hash slot j h c.args.picks m i pos refl (seen_as g.P.PartKind.bytes g.S.SettingKind.numbers slots j i c.index-slots-bucket.result Empty (omega (arith, c.requires.long, c.requires.into, low)) low c.index-slots-bucket.is c.in_default.is);
       made = tt;
     }
 
-pub returns-in-err-rest : goal.returns-in-err-rest
-returns-in-err-rest g t c =
+pub returns-in_err-rest : goal.returns-in_err-rest
+returns-in_err-rest g t c =
     let z = c.args.sizes in
     let hash = g.F.HashFamily.hash c.args.family.now in
     let slots = c.args.slots.now in
@@ -91,15 +91,15 @@ returns-in-err-rest g t c =
     let q : HeldPart = (g.P.PartKind.bytes c.in-Held.held, g.S.SettingKind.numbers c.in-Held.own) in
     let low = c.requires.picks (m - 1) in
     let at : slot j i ≡ some q = seen_as g.P.PartKind.bytes g.S.SettingKind.numbers slots j i c.index-slots-bucket.result (Held c.in-Held.held c.in-Held.own) (omega (arith, c.requires.long, c.requires.into, low)) low c.index-slots-bucket.is c.in-Held.is in
-    let next : c.other-next.result ≡ other z hash q.0 j = c.other-next.ensures ∙ other-is z hash q.0 c.places-of.result c.places-of.ensures j in
+    let next : c.other-next.result ≡ other z hash q.0 j = c.other-next.ensures ∙ other-is z hash q.0 c.places_of.result c.places_of.ensures j in
     let there = ap (λ (o : ℕ). planned z hash slot o q (down_from c.args.picks (m - 1))) next in
     record {
-      is = ap (plan_of slot h) c.from-residual-in-err-rest.ensures ∙ move_dead z hash slot j h c.args.picks m i pos refl q at (c.in-err-rest.ensures.is ∙ there);
-      made = subst (MadeIf z slot m) (sym c.from-residual-in-err-rest.ensures) tt;
+      is = ap (plan_of slot h) c.from-residual-in_err-rest.ensures ∙ move_dead z hash slot j h c.args.picks m i pos refl q at (c.in_err-rest.ensures.is ∙ there);
+      made = subst (MadeIf z slot m) (sym c.from-residual-in_err-rest.ensures) tt;
     }
 
-pub returns-in-err-seed-2 : goal.returns-in-err-seed-2
-returns-in-err-seed-2 g t c =
+pub returns-in_err-seed-2 : goal.returns-in_err-seed-2
+returns-in_err-seed-2 g t c =
     let z = c.args.sizes in
     let hash = g.F.HashFamily.hash c.args.family.now in
     let slots = c.args.slots.now in
@@ -112,11 +112,11 @@ returns-in-err-seed-2 g t c =
     let q : HeldPart = (g.P.PartKind.bytes c.in-Held.held, g.S.SettingKind.numbers c.in-Held.own) in
     let low = c.requires.picks (m - 1) in
     let at : slot j i ≡ some q = seen_as g.P.PartKind.bytes g.S.SettingKind.numbers slots j i c.index-slots-bucket.result (Held c.in-Held.held c.in-Held.own) (omega (arith, c.requires.long, c.requires.into, low)) low c.index-slots-bucket.is c.in-Held.is in
-    let next : c.other-next.result ≡ other z hash q.0 j = c.other-next.ensures ∙ other-is z hash q.0 c.places-of.result c.places-of.ensures j in
+    let next : c.other-next.result ≡ other z hash q.0 j = c.other-next.ensures ∙ other-is z hash q.0 c.places_of.result c.places_of.ensures j in
     let there = ap (λ (o : ℕ). planned z hash slot o q (down_from c.args.picks (m - 1))) next in
     record {
-      is = ap (plan_of slot h) c.from-residual-in-err-seed-2.ensures ∙ move_at z hash slot j h c.args.picks m i pos refl q (placements_of slot c.in-ok-rest.rest q) none at (c.in-ok-rest.ensures.is ∙ there) c.in-err-seed-2.ensures;
-      made = subst (MadeIf z slot m) (sym c.from-residual-in-err-seed-2.ensures) tt;
+      is = ap (plan_of slot h) c.from-residual-in_err-seed-2.ensures ∙ move_at z hash slot j h c.args.picks m i pos refl q (placements_of slot c.in_ok-rest.rest q) none at (c.in_ok-rest.ensures.is ∙ there) c.in_err-seed-2.ensures;
+      made = subst (MadeIf z slot m) (sym c.from-residual-in_err-seed-2.ensures) tt;
     }
 
 pub returns : goal.returns
@@ -133,14 +133,14 @@ returns g t c =
     let q : HeldPart = (g.P.PartKind.bytes c.in-Held.held, g.S.SettingKind.numbers c.in-Held.own) in
     let low = c.requires.picks (m - 1) in
     let at : slot j i ≡ some q = seen_as g.P.PartKind.bytes g.S.SettingKind.numbers slots j i c.index-slots-bucket.result (Held c.in-Held.held c.in-Held.own) (omega (arith, c.requires.long, c.requires.into, low)) low c.index-slots-bucket.is c.in-Held.is in
-    let next : c.other-next.result ≡ other z hash q.0 j = c.other-next.ensures ∙ other-is z hash q.0 c.places-of.result c.places-of.ensures j in
+    let next : c.other-next.result ≡ other z hash q.0 j = c.other-next.ensures ∙ other-is z hash q.0 c.places_of.result c.places_of.ensures j in
     let there = ap (λ (o : ℕ). planned z hash slot o q (down_from c.args.picks (m - 1))) next in
-    let rest = c.in-ok-rest.rest in
-    let s = c.in-ok-seed-2.seed in
-    let made = c.in-ok-rest.ensures.made in
+    let rest = c.in_ok-rest.rest in
+    let s = c.in_ok-seed-2.seed in
+    let made = c.in_ok-rest.ensures.made in
     let one : rest.moves + 1 ≡ m = omega (arith, made.moves) in
     record {
       is = ap (λ (p : Plan). some (placements_of slot p h)) c.put-2.ensures.is ∙ ap some (placements_more slot rest m j i s (omega (arith, c.requires.few)) c.put-2.ensures.sized h q at made.whole one)
-          ∙ move_at z hash slot j h c.args.picks m i pos refl q (placements_of slot rest q) (some s) at (c.in-ok-rest.ensures.is ∙ there) c.in-ok-seed-2.ensures;
+          ∙ move_at z hash slot j h c.args.picks m i pos refl q (placements_of slot rest q) (some s) at (c.in_ok-rest.ensures.is ∙ there) c.in_ok-seed-2.ensures;
       made = subst (Made z slot m) (sym c.put-2.ensures.is) (made_more slot rest m j i s (omega (arith, c.requires.few)) c.put-2.ensures.sized h z c.requires.into low q at one made.fit made.whole);
     }

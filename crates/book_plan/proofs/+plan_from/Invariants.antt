@@ -1,4 +1,4 @@
 use Rattle.book_plan.proofs.+plan_from.Given as goal
 
-abbrev pub decreases-plan-from : goal.decreases-plan-from
-decreases-plan-from g l = l.moves
+abbrev pub decreases-plan_from : goal.decreases-plan_from
+decreases-plan_from g l = l.moves

@@ -11,6 +11,6 @@ returns g c =
     let hash = g.F.HashFamily.hash c.args.family.now in
     let bytes = g.P.PartKind.bytes in
     let xs = c.args.slots.now in
-    c.least-with.ensures
+    c.least_with.ensures
     ∙ ap (λ (l : List (Slot g.row.P.Denot g.row.S.Denot)). seed_for hash (parts bytes (set l c.args.slot (Held c.args.part c.args.setting)))) (slice_four xs c.args.bucket _ (omega arith) c.requires.0)
     ∙ ap (seed_for hash) (four-with bytes g.S.SettingKind.numbers xs c.args.bucket c.args.slot c.args.part c.args.setting c.requires.1)

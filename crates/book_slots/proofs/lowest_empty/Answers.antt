@@ -22,7 +22,7 @@ loop-i-preserved g c =
     let bytes = g.P.PartKind.bytes in
     let numbers = g.S.SettingKind.numbers in
     let xs = c.args.slots.now in
-    let seen = seen_as bytes numbers xs c.args.bucket c.loop-i.i c.index-slots-bucket.result (Held c.in-default.field-0 c.in-default.field-1) (omega arith) (omega arith) c.index-slots-bucket.is c.in-default.is in
+    let seen = seen_as bytes numbers xs c.args.bucket c.loop-i.i c.index-slots-bucket.result (Held c.in_default.field-0 c.in_default.field-1) (omega arith) (omega arith) c.index-slots-bucket.is c.in_default.is in
     sym (first_more (λ i. is_empty (slot_in bytes numbers xs c.args.bucket i)) c.loop-i.i 4 c.loop-i-test.true (ap is_empty seen)) ∙ c.loop-i.invariant
 
 pub returns : goal.returns

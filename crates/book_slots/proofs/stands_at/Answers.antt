@@ -15,7 +15,7 @@ returns-in-Some g c =
 pub loop-bucket-preserved : goal.loop-bucket-preserved
 loop-bucket-preserved g c =
     let spot = spot_in (slot_in g.P.PartKind.bytes g.S.SettingKind.numbers c.args.slots.now) (g.P.PartKind.bytes c.args.part.now) in
-    sym (answer-more spot c.loop-bucket.bucket c.args.sizes.buckets c.loop-bucket-test.true (sym c.in-default.ensures.is)) ∙ c.loop-bucket.invariant
+    sym (answer-more spot c.loop-bucket.bucket c.args.sizes.buckets c.loop-bucket-test.true (sym c.in_default.ensures.is)) ∙ c.loop-bucket.invariant
 
 pub returns : goal.returns
 returns g c =

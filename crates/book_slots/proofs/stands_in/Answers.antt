@@ -9,7 +9,7 @@ use Rattle.book_slots.specs.Spots.{spot_at}
 use Rattle.book_slots.proofs.Firsts.{answer-more, answer-here, answer-none}
 use Rattle.book_slots.proofs.Slots.{seen_as}
 use Rattle.book_slots.proofs.stands_in.Goals as goal
-use Rattle.book_slots.proofs.stands_in.Goals.{in-Held+else-same-part, in-default}
+use Rattle.book_slots.proofs.stands_in.Goals.{in-Held+else-same_part, in_default}
 
 -- a slot that holds this part, one that holds another, an empty one
 spot_same : (slot : ℕ → ℕ → Slot) (k : Part) (j i : ℕ) (h : Standing) → slot j i ≡ some h → same_list k h.0 ≡ true → spot_at slot k j i ≡ some (j, i)
@@ -21,8 +21,8 @@ spot_other slot k j i h e s = ap (λ (x : Slot). x then (λ y. cond (same_list k
 spot_none : (slot : ℕ → ℕ → Slot) (k : Part) (j i : ℕ) → slot j i ≡ none → spot_at slot k j i ≡ none
 spot_none slot k j i e = ap (λ (x : Slot). x then (λ y. cond (same_list k y.0) (some (j, i)) none)) e
 
-pub returns-then-same-part : goal.returns-then-same-part
-returns-then-same-part g c =
+pub returns-then-same_part : goal.returns-then-same_part
+returns-then-same_part g c =
     let bytes = g.P.PartKind.bytes in
     let numbers = g.S.SettingKind.numbers in
     let xs = c.args.slots.now in
@@ -30,7 +30,7 @@ returns-then-same-part g c =
     let k = bytes c.args.part.now in
     let seen = seen_as bytes numbers xs c.args.bucket c.loop-i.i c.index-slots-bucket.result (Held c.in-Held.held c.in-Held.setting) (omega arith) (omega arith) c.index-slots-bucket.is c.in-Held.is in
     record {
-      is = sym (answer-here (spot_at slot k c.args.bucket) c.loop-i.i 4 (c.args.bucket, c.loop-i.i) c.loop-i-test.true (spot_same slot k c.args.bucket c.loop-i.i _ seen (sym c.same-part.ensures ∙ c.if-same-part.true))) ∙ c.loop-i.invariant;
+      is = sym (answer-here (spot_at slot k c.args.bucket) c.loop-i.i 4 (c.args.bucket, c.loop-i.i) c.loop-i-test.true (spot_same slot k c.args.bucket c.loop-i.i _ seen (sym c.same_part.ensures ∙ c.if-same_part.true))) ∙ c.loop-i.invariant;
       low = c.loop-i-test.true;
     }
 
@@ -43,11 +43,11 @@ loop-i-preserved g c =
     let k = bytes c.args.part.now in
     let more = answer-more (spot_at slot k c.args.bucket) c.loop-i.i 4 c.loop-i-test.true in
     elim c.match-slots-bucket.branch [
-      | in-Held+else-same-part w ↦ sym (more (spot_other slot k c.args.bucket c.loop-i.i _
+      | in-Held+else-same_part w ↦ sym (more (spot_other slot k c.args.bucket c.loop-i.i _
           (seen_as bytes numbers xs c.args.bucket c.loop-i.i c.index-slots-bucket.result (Held w.in-Held.held w.in-Held.setting) (omega arith) (omega arith) c.index-slots-bucket.is w.in-Held.is)
-          (sym w.same-part.ensures ∙ w.if-same-part.false))) ∙ c.loop-i.invariant
-      | in-default w ↦ sym (more (spot_none slot k c.args.bucket c.loop-i.i
-          (seen_as bytes numbers xs c.args.bucket c.loop-i.i c.index-slots-bucket.result Empty (omega arith) (omega arith) c.index-slots-bucket.is w.in-default.is))) ∙ c.loop-i.invariant
+          (sym w.same_part.ensures ∙ w.if-same_part.false))) ∙ c.loop-i.invariant
+      | in_default w ↦ sym (more (spot_none slot k c.args.bucket c.loop-i.i
+          (seen_as bytes numbers xs c.args.bucket c.loop-i.i c.index-slots-bucket.result Empty (omega arith) (omega arith) c.index-slots-bucket.is w.in_default.is))) ∙ c.loop-i.invariant
     ]
 
 pub returns : goal.returns

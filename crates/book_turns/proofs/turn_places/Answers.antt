@@ -7,13 +7,13 @@ use Rattle.book_turns.specs.Turning.{TurnsAll}
 use Rattle.book_turns.proofs.Turning.{turns-on, turns-low}
 use Rattle.book_turns.proofs.turn_places.Goals as goal
 
-pub turn-step-requires : goal.turn-step-requires
-turn-step-requires g c =
+pub turn_step-requires : goal.turn_step-requires
+turn_step-requires g c =
     let slot = slot_in g.P.PartKind.bytes g.S.SettingKind.numbers c.args.slots.now in
     let h : Held = (g.P.PartKind.bytes c.args.part, g.S.SettingKind.numbers c.args.setting) in
     record {
       cached = c.requires.cached;
-      kept = (omega (arith, c.requires.kept.0, c.loop-step.auto.kept-a), omega (arith, c.requires.kept.1, c.loop-step.auto.kept_b));
+      kept = (omega (arith, c.requires.kept.0, c.loop-step.auto.kept_a), omega (arith, c.requires.kept.1, c.loop-step.auto.kept_b));
       long = (omega (arith, c.requires.long.0, c.loop-step.auto.marks), omega (arith, c.requires.long.1, c.loop-step.auto.words));
       few = omega (arith, c.loop-step-test.true, c.requires.fit.few);
       low = turns-low c.args.sizes (g.F.HashFamily.hash c.args.family.now) g.S.SettingKind.blanks (parts g.P.PartKind.bytes c.args.slots.now) (placement_at slot c.args.plan h) c.loop-step.step c.args.words.now c.loop-step.words c.loop-step.invariant
@@ -25,7 +25,7 @@ loop-step-preserved g c =
     let slot = slot_in g.P.PartKind.bytes g.S.SettingKind.numbers c.args.slots.now in
     let h : Held = (g.P.PartKind.bytes c.args.part, g.S.SettingKind.numbers c.args.setting) in
     turns-on c.args.sizes (g.F.HashFamily.hash c.args.family.now) g.S.SettingKind.blanks (parts g.P.PartKind.bytes c.args.slots.now) (placement_at slot c.args.plan h) c.loop-step.step c.args.words.now c.loop-step.words c.loop-step.invariant
-    (g.P.PartKind.bytes c.arriving-held.result.0) c.turn-step.new.words (ap (λ (x : Held). x.0) c.arriving-held.ensures) c.turn-step.ensures
+    (g.P.PartKind.bytes c.arriving-held.result.0) c.turn_step.new.words (ap (λ (x : Held). x.0) c.arriving-held.ensures) c.turn_step.ensures
 
 pub returns : goal.returns
 returns g c =

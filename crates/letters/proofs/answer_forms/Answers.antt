@@ -13,10 +13,10 @@ loop-at-preserved c =
     let l = c.loop-at in
     let input = c.args.input.now in
     let out = vec_items l.out in
-    let after = vec_items c.answer-form.new.out in
-    let used = c.in-ok-used.used in
+    let after = vec_items c.answer_form.new.out in
+    let used = c.in_ok-used.used in
     let form : Answered 1 (form_of (drop l.at input)) (drop l.at input) out after used =
-    subst (λ (rest : List ℕ). Answered 1 (form_of rest) rest out after used) (take_rest input l.at) c.in-ok-used.ensures in
+    subst (λ (rest : List ℕ). Answered 1 (form_of rest) rest out after used) (take_rest input l.at) c.in_ok-used.ensures in
     (omega (arith, form.within, length-drop l.at input, c.loop-at-test.true), forms_on input (vec_items c.args.out.now ++ text_of_letters input) l.at out used after c.loop-at-test.true l.invariant.1 form)
 
 pub returns : goal.returns

@@ -4,5 +4,5 @@ use Rattle.letters.proofs.answer_letter.Goals as goal
 
 pub returns-in-Err : goal.returns-in-Err
 returns-in-Err c =
-    subst (λ (l : List ℕ). IfOk c.push-fault.result (λ _. vec_items c.push-fault.new.out ≡ vec_items c.args.out.now ++ l))
-    (letter_fault c.args.text.now c.in-Err.fault c.in-Err.ensures) c.push-fault.ensures
+    subst (λ (l : List ℕ). IfOk c.push_fault.result (λ _. vec_items c.push_fault.new.out ≡ vec_items c.args.out.now ++ l))
+    (letter_fault c.args.text.now c.in-Err.fault c.in-Err.ensures) c.push_fault.ensures

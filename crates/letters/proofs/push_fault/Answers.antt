@@ -6,9 +6,9 @@ use Rattle.letters.proofs.push_fault.Goals as goal
 
 pub returns : goal.returns
 returns c =
-    let o = vec_items c.extend-from-slice-2.new.self in
+    let o = vec_items c.extend_from_slice-2.new.self in
     let front = vec_items c.push.new.self in
-    five_pushed (vec_items c.args.out.now) (vec_items c.extend-from-slice.new.self) (vec_items c.push-number.new.out) front o _
+    five_pushed (vec_items c.args.out.now) (vec_items c.extend_from_slice.new.self) (vec_items c.push_number.new.out) front o _
     (codes "(refused 14 ") (number_text c.args.fault.place) (32 ∷ []) (cause_name c.args.fault.cause) (41 ∷ 10 ∷ [])
-    c.in-ok-extend-from-slice.ensures.items c.in-ok-push-number.ensures c.in-ok-push.ensures.items
-    (c.in-ok-extend-from-slice-2.ensures.items ∙ ap (λ l. front ++ l) c.cause-name.ensures) c.in-ok-extend-from-slice-3.ensures.items
+    c.in_ok-extend_from_slice.ensures.items c.in_ok-push_number.ensures c.in_ok-push.ensures.items
+    (c.in_ok-extend_from_slice-2.ensures.items ∙ ap (λ l. front ++ l) c.cause_name.ensures) c.in_ok-extend_from_slice-3.ensures.items

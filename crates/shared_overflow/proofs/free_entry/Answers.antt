@@ -8,11 +8,11 @@ pub returns-then-own-entries : goal.returns-then-own-entries
 returns-then-own-entries c =
     let es = c.args.entries.now in
     let j = c.args.bucket in
-    let l : first_mine j es < length es = omega (arith, c.place-of-own.ensures) in
-    free_at es c.place-of-own.result j unused unused (search rules) c.if-own-entries.true c.requires
-    (ap (λ (i : ℕ). mine j (get_or es i unused)) c.place-of-own.ensures ∙ first_hit (mine j) es unused l)
+    let l : first_mine j es < length es = omega (arith, c.place_of-own.ensures) in
+    free_at es c.place_of-own.result j unused unused (search rules) c.if-own-entries.true c.requires
+    (ap (λ (i : ℕ). mine j (get_or es i unused)) c.place_of-own.ensures ∙ first_hit (mine j) es unused l)
 
 pub returns-else-own-entries : goal.returns-else-own-entries
 returns-else-own-entries c =
     let es = c.args.entries.now in
-    free_none es c.args.bucket (no_mine c.args.bucket es (omega (arith, c.place-of-own.ensures, c.if-own-entries.false)))
+    free_none es c.args.bucket (no_mine c.args.bucket es (omega (arith, c.place_of-own.ensures, c.if-own-entries.false)))

@@ -11,15 +11,15 @@ room : (es : List Entry) (j own free : ℕ) → own ≡ first_mine j es → leng
 room es j own free e h f g =
     elim (cases_lt free (length es)) [ inl l ↦ l | inr l ↦ absurd (omega (arith, no_free es (omega arith), f (no_mine j es (omega arith)))) ]
 
-pub offset-bounds-entries-free : goal.offset-bounds-entries-free
-offset-bounds-entries-free c =
-    let free = room c.args.entries.now c.args.bucket c.place-of-own.result c.free-place-free.result in
-    omega (arith, free c.place-of-own.ensures c.if-own-entries.false c.requires.1 c.free-place-free.ensures)
+pub offset_bounds-entries-free : goal.offset_bounds-entries-free
+offset_bounds-entries-free c =
+    let free = room c.args.entries.now c.args.bucket c.place_of-own.result c.free_place-free.result in
+    omega (arith, free c.place_of-own.ensures c.if-own-entries.false c.requires.1 c.free_place-free.ensures)
 
 pub bounds-entries-free : goal.bounds-entries-free
 bounds-entries-free c =
-    let free = room c.args.entries.now c.args.bucket c.place-of-own.result c.free-place-free.result in
-    omega (arith, free c.place-of-own.ensures c.if-own-entries.false c.requires.1 c.free-place-free.ensures)
+    let free = room c.args.entries.now c.args.bucket c.place_of-own.result c.free_place-free.result in
+    omega (arith, free c.place_of-own.ensures c.if-own-entries.false c.requires.1 c.free_place-free.ensures)
 
 least : (b : Bool) (n : ℕ) → b ≡ true → one b ≤ n → n ≤ 1 → n ≡ one b
 least b n e l h = omega (arith, ap one e)
@@ -28,10 +28,10 @@ pub returns-then-own-entries : goal.returns-then-own-entries
 returns-then-own-entries c =
     let es = c.args.entries.now in
     let j = c.args.bucket in
-    let own = c.place-of-own.result in
-    let l : first_mine j es < length es = omega (arith, c.place-of-own.ensures) in
+    let own = c.place_of-own.result in
+    let l : first_mine j es < length es = omega (arith, c.place_of-own.ensures) in
     let m : mine j (get_or es own unused) ≡ true =
-    ap (λ (i : ℕ). mine j (get_or es i unused)) c.place-of-own.ensures ∙ first_hit (mine j) es unused l in
+    ap (λ (i : ℕ). mine j (get_or es i unused)) c.place_of-own.ensures ∙ first_hit (mine j) es unused l in
     put-at es own j c.args.seed _ unused refl c.if-own-entries.true
     (least _ (times es j) m (within es own unused j c.if-own-entries.true) c.requires.0) (inl m)
 
@@ -39,11 +39,11 @@ pub returns-else-own-entries : goal.returns-else-own-entries
 returns-else-own-entries c =
     let es = c.args.entries.now in
     let j = c.args.bucket in
-    let free = c.free-place-free.result in
-    let i : free < length es = room es j c.place-of-own.result free c.place-of-own.ensures c.if-own-entries.false c.requires.1 c.free-place-free.ensures in
-    let l : first_free es < length es = omega (arith, c.free-place-free.ensures) in
-    let gone : times es j ≡ 0 = no_mine j es (omega (arith, c.place-of-own.ensures, c.if-own-entries.false)) in
+    let free = c.free_place-free.result in
+    let i : free < length es = room es j c.place_of-own.result free c.place_of-own.ensures c.if-own-entries.false c.requires.1 c.free_place-free.ensures in
+    let l : first_free es < length es = omega (arith, c.free_place-free.ensures) in
+    let gone : times es j ≡ 0 = no_mine j es (omega (arith, c.place_of-own.ensures, c.if-own-entries.false)) in
     let u : (get_or es free unused).used ≡ false =
-    ap (λ (i : ℕ). (get_or es i unused).used) c.free-place-free.ensures
+    ap (λ (i : ℕ). (get_or es i unused).used) c.free_place-free.ensures
     ∙ not-true (get_or es (first_free es) unused).used (first_hit (λ e. not e.used) es unused l) in
     put-at es free j c.args.seed _ unused refl i (gone ∙ sym (ap one (unused-mine j (get_or es free unused) u))) (inr u)

@@ -7,5 +7,5 @@ returns-then-at-text g c = no_part (g.F.HashFamily.hash c.args.family.now) c.arg
 
 pub returns : goal.returns
 returns g c =
-    family_by (g.F.HashFamily.hash c.args.family.now) c.args.text.now c.first-of-at.result c.in-ok-seed.seed _
-    c.first-of-at.ensures c.in-ok-seed.ensures c.part-hash.ensures
+    family_by (g.F.HashFamily.hash c.args.family.now) c.args.text.now c.first_of-at.result c.in_ok-seed.seed _
+    c.first_of-at.ensures c.in_ok-seed.ensures c.part_hash.ensures

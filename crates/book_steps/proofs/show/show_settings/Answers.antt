@@ -11,7 +11,7 @@ loop-place-preserved g c =
     let slot = slot_in g.P.PartKind.bytes g.S.SettingKind.numbers c.args.slots.now in
     let f = value_at (g.F.HashFamily.hash c.args.family.now) g.S.SettingKind.blanks c.args.seed (filled slot c.args.bucket c.args.spot (g.P.PartKind.bytes c.args.part, g.S.SettingKind.numbers c.args.setting)) in
     ap (λ v. fold after v (settings after f (c.loop-place.place + 1))) c.setting.ensures
-    ∙ sym (settings-more after f c.loop-place.place c.loop-place.v _ c.loop-place-test.true c.setting-under-shown.ensures)
+    ∙ sym (settings-more after f c.loop-place.place c.loop-place.v _ c.loop-place-test.true c.setting_under-shown.ensures)
     ∙ c.loop-place.invariant
 
 pub returns : goal.returns

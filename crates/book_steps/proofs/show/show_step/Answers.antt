@@ -17,7 +17,7 @@ returns g c =
     let short : length words - c.args.sizes.a ≡ c.args.sizes.b = omega (arith, c.requires.words) in
     let all : c.args.sizes.a - 0 ≡ c.args.sizes.a = omega arith in
     step-pieces g.V.StepVisitor.after _ _ _ _ _ _ _ _ (get_or plan.buckets k 0) _ _ _ _ _ _ _ _
-    c.begin-bucket.ensures c.from.ensures c.show-settings.ensures
+    c.begin_bucket.ensures c.from.ensures c.show_settings.ensures
     (ap (λ (h : Held). map (value_at hash g.S.SettingKind.blanks (get_or plan.seeds k 0) (filled slot (get_or plan.buckets k 0) (get_or plan.spots k 0) h)) (0 ∷ 1 ∷ 2 ∷ 3 ∷ [])) c.arriving-held.ensures)
-    c.row-a.ensures c.show-row.ensures (ap (flagged_from words k 0) all)
-    c.row-b.ensures c.show-row-2.ensures (ap (flagged_from words k c.args.sizes.a) short) c.end-bucket.ensures
+    c.row_a.ensures c.show_row.ensures (ap (flagged_from words k 0) all)
+    c.row_b.ensures c.show_row-2.ensures (ap (flagged_from words k c.args.sizes.a) short) c.end_bucket.ensures

@@ -10,7 +10,7 @@ loop-step-preserved g c =
     let slot = slot_in g.P.PartKind.bytes g.S.SettingKind.numbers c.args.slots.now in
     let f = shown_step c.args.sizes (g.F.HashFamily.hash c.args.family.now) g.S.SettingKind.blanks slot c.args.plan (g.P.PartKind.bytes c.args.part, g.S.SettingKind.numbers c.args.setting) c.args.words.now in
     let n = suc c.args.plan.moves in
-    ap (λ v. fold after v (steps after f n (c.loop-step.step + 1))) c.show-step.ensures
+    ap (λ v. fold after v (steps after f n (c.loop-step.step + 1))) c.show_step.ensures
     ∙ sym (steps-more after f n c.loop-step.step c.loop-step.v (omega (arith, c.loop-step-test.true)))
     ∙ c.loop-step.invariant
 

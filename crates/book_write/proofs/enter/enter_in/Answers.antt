@@ -23,7 +23,7 @@ returns-in-Err g c =
     let bytes = g.P.PartKind.bytes in
     let numbers = g.S.SettingKind.numbers in
     let kind = kind_of g.S.SettingKind.count g.S.SettingKind.lawful g.S.SettingKind.blanks in
-    let b = book_of bytes numbers z c.args.slots.now c.args.row-a.now c.args.row-b.now c.args.seeds.now c.args.overflow.now c.args.number in
+    let b = book_of bytes numbers z c.args.slots.now c.args.row_a.now c.args.row_b.now c.args.seeds.now c.args.overflow.now c.args.number in
     let h : Held = (bytes c.args.part, numbers c.args.setting) in
     let buffer = c.args.notice.now in
     let e = c.in-Err.refusal in
@@ -39,18 +39,18 @@ too_long : (kind : Kind) (n : ℕ) (steps : List Step) (buffer : List ℕ) → n
 unfolding notice_length notice_bytes
 too_long kind n steps buffer a b = omega arith
 
-pub returns-in-default : goal.returns-in-default
-returns-in-default g c =
+pub returns-in_default : goal.returns-in_default
+returns-in_default g c =
     let z = c.args.sizes in
     let hash = g.F.HashFamily.hash c.args.family.now in
     let bytes = g.P.PartKind.bytes in
     let numbers = g.S.SettingKind.numbers in
     let kind = kind_of g.S.SettingKind.count g.S.SettingKind.lawful g.S.SettingKind.blanks in
-    let b = book_of bytes numbers z c.args.slots.now c.args.row-a.now c.args.row-b.now c.args.seeds.now c.args.overflow.now c.args.number in
+    let b = book_of bytes numbers z c.args.slots.now c.args.row_a.now c.args.row_b.now c.args.seeds.now c.args.overflow.now c.args.number in
     let h : Held = (bytes c.args.part, numbers c.args.setting) in
     let buffer = c.args.notice.now in
     let plan = c.in-Ok.plan in
-    absurd (too_long kind (c.args.number + 1) (shown_steps z hash kind.blank b.slot plan h c.plan-enter.new.words) buffer (c.in-Ok.ensures.turned.short kind) (c.in-default.ensures kind))
+    absurd (too_long kind (c.args.number + 1) (shown_steps z hash kind.blank b.slot plan h c.plan_enter.new.words) buffer (c.in-Ok.ensures.turned.short kind) (c.in_default.ensures kind))
 
 pub returns : goal.returns
 returns g c =
@@ -59,30 +59,30 @@ returns g c =
     let bytes = g.P.PartKind.bytes in
     let numbers = g.S.SettingKind.numbers in
     let kind = kind_of g.S.SettingKind.count g.S.SettingKind.lawful g.S.SettingKind.blanks in
-    let b = book_of bytes numbers z c.args.slots.now c.args.row-a.now c.args.row-b.now c.args.seeds.now c.args.overflow.now c.args.number in
+    let b = book_of bytes numbers z c.args.slots.now c.args.row_a.now c.args.row_b.now c.args.seeds.now c.args.overflow.now c.args.number in
     let h : Held = (bytes c.args.part, numbers c.args.setting) in
     let buffer = c.args.notice.now in
     let plan = c.in-Ok.plan in
-    let words = c.plan-enter.new.words in
+    let words = c.plan_enter.new.words in
     let passed = c.in-Ok.ensures.turned in
     let ps = placements_of b.slot plan h in
     let tss = turns z hash kind.blank (parts_of z b) b.row ps in
     let written = c.in-Some.ensures kind in
-    let seeds = c.store-seeds.ensures b.slot h in
-    let long : length words ≡ z.a + z.b = omega (arith, c.plan-enter.auto.words, c.requires.cut.long-words) in
-    let rows = rows_after z.a z.b c.args.row-a.now c.args.row-b.now c.store-rows.new.row-a c.store-rows.new.row-b words tss long c.store-rows.ensures.a c.store-rows.ensures.b passed.own (turns-ranged z hash kind.blank (parts_of z b) ps b.row) in
+    let seeds = c.store_seeds.ensures b.slot h in
+    let long : length words ≡ z.a + z.b = omega (arith, c.plan_enter.auto.words, c.requires.cut.long-words) in
+    let rows = rows_after z.a z.b c.args.row_a.now c.args.row_b.now c.store_rows.new.row_a c.store_rows.new.row_b words tss long c.store_rows.ensures.a c.store_rows.ensures.b passed.own (turns-ranged z hash kind.blank (parts_of z b) ps b.row) in
     let shown = shown-outcome z hash kind.blank (parts_of z b) b plan h words passed.own in
     let number : c.args.number + 1 ≡ suc (played z hash kind.blank (parts_of z b) b ps).number = omega (arith, ap (λ (x : Book). x.number) (plays z hash kind.blank (parts_of z b) b ps)) in
-    let book = book_after_lem z hash kind.blank (parts_of z b) b ps _ _ _ c.store-slots.ensures rows seeds.shown in
+    let book = book_after_lem z hash kind.blank (parts_of z b) b ps _ _ _ c.store_slots.ensures rows seeds.shown in
     record {
-      left = subst (λ (x : Book). CallLeft z hash kind b (enter h.0 h.1) buffer (accepted (c.in-Some.len ∷ [])) x c.write-notice.new.out) (sym book)
-          (call_done z hash kind b (enter h.0 h.1) buffer _ _ c.in-Ok.ensures.is (c.args.number + 1) c.in-Some.len c.write-notice.new.out number
+      left = subst (λ (x : Book). CallLeft z hash kind b (enter h.0 h.1) buffer (accepted (c.in-Some.len ∷ [])) x c.write_notice.new.out) (sym book)
+          (call_done z hash kind b (enter h.0 h.1) buffer _ _ c.in-Ok.ensures.is (c.args.number + 1) c.in-Some.len c.write_notice.new.out number
           (written.0 ∙ ap (λ (ss : List Step). length (notice_bytes kind (c.args.number + 1) ss)) shown) (written.1 ∙ ap (λ (ss : List Step). notice_bytes kind (c.args.number + 1) ss ++ drop c.in-Some.len buffer) shown));
       kept = record {
-        long-slots = omega (arith, c.store-slots.auto.slots, c.requires.kept.long-slots);
-        long-rowa = omega (arith, c.store-rows.auto.row-a, c.requires.kept.long-rowa);
-        long-rowb = omega (arith, c.store-rows.auto.row-b, c.requires.kept.long-rowb);
-        long-seeds = omega (arith, c.store-seeds.auto.seeds, c.requires.kept.long-seeds);
+        long-slots = omega (arith, c.store_slots.auto.slots, c.requires.kept.long-slots);
+        long-rowa = omega (arith, c.store_rows.auto.row_a, c.requires.kept.long-rowa);
+        long-rowb = omega (arith, c.store_rows.auto.row_b, c.requires.kept.long-rowb);
+        long-seeds = omega (arith, c.store_seeds.auto.seeds, c.requires.kept.long-seeds);
         sound = seeds.sound;
       };
       slots = tt;

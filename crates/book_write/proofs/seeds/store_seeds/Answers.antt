@@ -17,8 +17,8 @@ loop-step-init c z slot h sound fit room =
     let n = suc c.args.plan.moves in
     (stored_none z seeds over p n sound, rest_all z p (seed_of seeds over) n ∙ room)
 
-pub set-seed-requires : goal.set-seed-requires
-set-seed-requires c =
+pub set_seed-requires : goal.set_seed-requires
+set_seed-requires c =
     let slot : ℕ → ℕ → Slot = λ j i. none in
     let h : Held = ([], []) in
     let p = placement_at slot c.args.plan h in
@@ -44,7 +44,7 @@ loop-step-preserved c z slot h sound fit room =
     let i = c.loop-step.step in
     let inv = c.loop-step.invariant z slot h sound fit room in
     let low = fit.into i (omega (arith, c.loop-step-test.true)) in (
-      stored_more z seeds over p n i c.loop-step.seeds c.loop-step.overflow low inv.0 c.set-seed.new.seeds c.set-seed.new.overflow c.set-seed.ensures,
+      stored_more z seeds over p n i c.loop-step.seeds c.loop-step.overflow low inv.0 c.set_seed.new.seeds c.set_seed.new.overflow c.set_seed.ensures,
       (rest-next z p (seed_of seeds over) n i (omega (arith, c.loop-step-test.true)) inv.1).1,
     )
 

@@ -8,8 +8,8 @@ use Rattle.book_steps.specs.Plans.{held_at, placement_at}
 use Rattle.book_write.proofs.SlotWrites.{upto, upto-more, held_kept}
 use Rattle.book_write.proofs.slots.store_slots.Goals as goal
 
-pub write-slot-requires : goal.write-slot-requires
-write-slot-requires g c =
+pub write_slot-requires : goal.write_slot-requires
+write_slot-requires g c =
     let few = c.loop-step-test.true in
     let into = c.requires.sure.fit.into c.loop-step.step (omega (arith, few)) in
     (omega (arith, into, c.requires.long, c.loop-step.auto.slots), c.requires.sure.fit.spot c.loop-step.step (omega (arith, few)))
@@ -28,7 +28,7 @@ loop-step-preserved g c =
     let few = c.loop-step-test.true in
     let own : (bytes c.arriving-held.result.0, numbers c.arriving-held.result.1) ≡ held_at slot plan h k =
     c.arriving-held.ensures ∙ ap (λ (f : ℕ → ℕ → Slot). held_at f plan h k) c.loop-step.invariant ∙ held_kept z slot plan h c.requires.sure k (omega (arith, few)) in
-    c.write-slot.ensures.shown
+    c.write_slot.ensures.shown
     ∙ ap₂ (λ (f : ℕ → ℕ → Slot) (x : Held). at2 f j i (some x)) c.loop-step.invariant own
     ∙ sym (upto-more z slot plan h c.requires.sure k)
 

@@ -7,8 +7,8 @@ returns g c =
     let four = 4 * c.args.turn in
     let bytes = g.P.PartKind.bytes c.args.part.now in
     record {
-      w = lanes_number_lem _ (256 + four) bytes c.absorb-places.ensures.w;
-      x = lanes_number_lem _ (257 + four) bytes c.absorb-places.ensures.x;
-      y = lanes_number_lem _ (258 + four) bytes c.absorb-places.ensures.y;
-      z = lanes_number_lem _ (259 + four) bytes c.absorb-places.ensures.z;
+      w = lanes_number_lem _ (256 + four) bytes c.absorb_places.ensures.w;
+      x = lanes_number_lem _ (257 + four) bytes c.absorb_places.ensures.x;
+      y = lanes_number_lem _ (258 + four) bytes c.absorb_places.ensures.y;
+      z = lanes_number_lem _ (259 + four) bytes c.absorb_places.ensures.z;
     }

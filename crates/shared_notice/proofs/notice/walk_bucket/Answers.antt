@@ -8,22 +8,22 @@ use Rattle.shared_notice.proofs.Seen.{walk-on, walk-stops}
 use Rattle.shared_notice.proofs.Steps.{bucket_rest}
 use Rattle.shared_notice.proofs.notice.walk_bucket.Goals as goal
 
-pub returns-in-err-at-2 : goal.returns-in-err-at-2
-returns-in-err-at-2 g c =
+pub returns-in_err-at-2 : goal.returns-in_err-at-2
+returns-in_err-at-2 g c =
     let after = g.V.StepVisitor.after in
     let text = c.args.text.now in
-    let p = err_from_is_err_and c.from-residual-in-err-at-2.result c.from-residual-in-err-at-2.ensures.1 in
+    let p = err_from_is_err_and c.from-residual-in_err-at-2.result c.from-residual-in_err-at-2.ensures.1 in
     rw (p.1, p.2)
-    (sym (bucket_rest after (kind_of g.S.SettingKind.count g.S.SettingKind.lawful g.S.SettingKind.blanks) text c.args.v.now c.args.at c.walk-content.new.v c.walk-content.result c.in-ok-at.at c.walk-content.ensures c.in-ok-at.was
-    ∙ walk-stops c.walk-rows.new.v c.walk-rows.result (walked after row_events c.walk-content.new.v ((pair a_form b_form).reads text c.in-ok-at.at))
-    (λ y. beside (after y.0 end_bucket) (toks_at line_end text y.1)) c.in-err-at-2.field-0.0 c.walk-rows.ensures c.in-err-at-2.was))
+    (sym (bucket_rest after (kind_of g.S.SettingKind.count g.S.SettingKind.lawful g.S.SettingKind.blanks) text c.args.v.now c.args.at c.walk_content.new.v c.walk_content.result c.in_ok-at.at c.walk_content.ensures c.in_ok-at.was
+    ∙ walk-stops c.walk_rows.new.v c.walk_rows.result (walked after row_events c.walk_content.new.v ((pair a_form b_form).reads text c.in_ok-at.at))
+    (λ y. beside (after y.0 end_bucket) (toks_at line_end text y.1)) c.in_err-at-2.field-0.0 c.walk_rows.ensures c.in_err-at-2.was))
 
 pub returns : goal.returns
 returns g c =
     let after = g.V.StepVisitor.after in
     let text = c.args.text.now in
-    ap (beside c.end-bucket.new.self) c.expect-line-end.ensures
-    ∙ ap (λ u. beside u (toks_at line_end text c.in-ok-at-2.at)) c.end-bucket.ensures
-    ∙ sym (bucket_rest after (kind_of g.S.SettingKind.count g.S.SettingKind.lawful g.S.SettingKind.blanks) text c.args.v.now c.args.at c.walk-content.new.v c.walk-content.result c.in-ok-at.at c.walk-content.ensures c.in-ok-at.was
-    ∙ walk-on c.walk-rows.new.v c.walk-rows.result (walked after row_events c.walk-content.new.v ((pair a_form b_form).reads text c.in-ok-at.at))
-    (λ y. beside (after y.0 end_bucket) (toks_at line_end text y.1)) c.in-ok-at-2.at c.walk-rows.ensures c.in-ok-at-2.was)
+    ap (beside c.end_bucket.new.self) c.expect_line_end.ensures
+    ∙ ap (λ u. beside u (toks_at line_end text c.in_ok-at-2.at)) c.end_bucket.ensures
+    ∙ sym (bucket_rest after (kind_of g.S.SettingKind.count g.S.SettingKind.lawful g.S.SettingKind.blanks) text c.args.v.now c.args.at c.walk_content.new.v c.walk_content.result c.in_ok-at.at c.walk_content.ensures c.in_ok-at.was
+    ∙ walk-on c.walk_rows.new.v c.walk_rows.result (walked after row_events c.walk_content.new.v ((pair a_form b_form).reads text c.in_ok-at.at))
+    (λ y. beside (after y.0 end_bucket) (toks_at line_end text y.1)) c.in_ok-at-2.at c.walk_rows.ensures c.in_ok-at-2.was)

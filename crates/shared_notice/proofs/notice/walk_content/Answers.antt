@@ -9,8 +9,8 @@ use Rattle.shared_notice.proofs.notice.walk_content.Goals as goal
 pub returns : goal.returns
 returns g c =
     let text = c.args.text.now in
-    let numbers : (pair (lead gap small) (lead gap small)).reads text c.args.at ≡ Ok ((c.in-ok-bucket.bucket, c.in-ok-seed.seed), c.in-ok-seed.at) = search rules in
-    let opened : toks_at (mark Space ∷ mark Open ∷ []) text c.in-ok-seed.at ≡ Ok c.in-ok-at-2.at = search rules in
-    c.walk-settings.ensures
-    ∙ sym (content_seen g.V.StepVisitor.after (kind_of g.S.SettingKind.count g.S.SettingKind.lawful g.S.SettingKind.blanks) text c.args.v.now c.args.at c.begin-bucket.new.self
-    c.in-ok-bucket.bucket c.in-ok-seed.seed c.in-ok-seed.at c.in-ok-at-2.at numbers opened c.begin-bucket.ensures)
+    let numbers : (pair (lead gap small) (lead gap small)).reads text c.args.at ≡ Ok ((c.in_ok-bucket.bucket, c.in_ok-seed.seed), c.in_ok-seed.at) = search rules in
+    let opened : toks_at (mark Space ∷ mark Open ∷ []) text c.in_ok-seed.at ≡ Ok c.in_ok-at-2.at = search rules in
+    c.walk_settings.ensures
+    ∙ sym (content_seen g.V.StepVisitor.after (kind_of g.S.SettingKind.count g.S.SettingKind.lawful g.S.SettingKind.blanks) text c.args.v.now c.args.at c.begin_bucket.new.self
+    c.in_ok-bucket.bucket c.in_ok-seed.seed c.in_ok-seed.at c.in_ok-at-2.at numbers opened c.begin_bucket.ensures)

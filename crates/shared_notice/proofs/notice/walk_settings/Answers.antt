@@ -6,17 +6,17 @@ use Rattle.shared_notice.specs.Walks.{kind_of}
 use Rattle.shared_notice.proofs.Settings.{numbers-ok, numbers-err, series-first, settings-more, settings-stop, settings-done}
 use Rattle.shared_notice.proofs.notice.walk_settings.Goals as goal
 
-pub returns-in-err-setting : goal.returns-in-err-setting
-returns-in-err-setting g c =
+pub returns-in_err-setting : goal.returns-in_err-setting
+returns-in_err-setting g c =
     let text = c.args.text.now in
     let form = setting_form (kind_of g.S.SettingKind.count g.S.SettingKind.lawful g.S.SettingKind.blanks) in
-    let p = err_from_is_err_and c.from-residual-in-err-setting.result c.from-residual-in-err-setting.ensures.1 in
+    let p = err_from_is_err_and c.from-residual-in_err-setting.result c.from-residual-in_err-setting.ensures.1 in
     rw (p.1, p.2)
-    (sym (settings-stop g.V.StepVisitor.after form text c.loop-slot.v c.loop-slot.at c.loop-slot.slot (4 - c.loop-slot.slot) (4 - (c.loop-slot.slot + 1)) c.in-err-setting.field-0.0 (omega arith)
-    (numbers-err g.S.SettingKind.numbers c.read-next-setting.result ((lead gap form).reads text c.loop-slot.at) c.in-err-setting.field-0.0 c.read-next-setting.ensures c.in-err-setting.was))
+    (sym (settings-stop g.V.StepVisitor.after form text c.loop-slot.v c.loop-slot.at c.loop-slot.slot (4 - c.loop-slot.slot) (4 - (c.loop-slot.slot + 1)) c.in_err-setting.field-0.0 (omega arith)
+    (numbers-err g.S.SettingKind.numbers c.read_next_setting.result ((lead gap form).reads text c.loop-slot.at) c.in_err-setting.field-0.0 c.read_next_setting.ensures c.in_err-setting.was))
     ∙ c.loop-slot.invariant
-    ∙ sym (series-first g.V.StepVisitor.after form text c.args.v.now c.args.start c.setting.new.self (g.S.SettingKind.numbers c.in-ok-first.first) c.in-ok-first.after
-    (numbers-ok g.S.SettingKind.numbers c.read-setting.result (form.reads text c.args.start) c.in-ok-first.first c.in-ok-first.after c.read-setting.ensures c.in-ok-first.was)
+    ∙ sym (series-first g.V.StepVisitor.after form text c.args.v.now c.args.start c.setting.new.self (g.S.SettingKind.numbers c.in_ok-first.first) c.in_ok-first.after
+    (numbers-ok g.S.SettingKind.numbers c.read_setting.result (form.reads text c.args.start) c.in_ok-first.first c.in_ok-first.after c.read_setting.ensures c.in_ok-first.was)
     c.setting.ensures))
 
 pub loop-slot-preserved : goal.loop-slot-preserved
@@ -24,8 +24,8 @@ loop-slot-preserved g c =
     let text = c.args.text.now in
     let form = setting_form (kind_of g.S.SettingKind.count g.S.SettingKind.lawful g.S.SettingKind.blanks) in
     sym (settings-more g.V.StepVisitor.after form text c.loop-slot.v c.loop-slot.at c.setting-in-loop-slot.new.self
-    (g.S.SettingKind.numbers c.in-ok-setting.setting) c.loop-slot.slot (4 - c.loop-slot.slot) (4 - (c.loop-slot.slot + 1)) c.in-ok-setting.to (omega arith)
-    (numbers-ok g.S.SettingKind.numbers c.read-next-setting.result ((lead gap form).reads text c.loop-slot.at) c.in-ok-setting.setting c.in-ok-setting.to c.read-next-setting.ensures c.in-ok-setting.was)
+    (g.S.SettingKind.numbers c.in_ok-setting.setting) c.loop-slot.slot (4 - c.loop-slot.slot) (4 - (c.loop-slot.slot + 1)) c.in_ok-setting.to (omega arith)
+    (numbers-ok g.S.SettingKind.numbers c.read_next_setting.result ((lead gap form).reads text c.loop-slot.at) c.in_ok-setting.setting c.in_ok-setting.to c.read_next_setting.ensures c.in_ok-setting.was)
     c.setting-in-loop-slot.ensures)
     ∙ c.loop-slot.invariant
 
@@ -35,6 +35,6 @@ returns g c =
     let form = setting_form (kind_of g.S.SettingKind.count g.S.SettingKind.lawful g.S.SettingKind.blanks) in
     sym (settings-done g.V.StepVisitor.after form text c.loop-slot.v c.loop-slot.at c.loop-slot.slot (4 - c.loop-slot.slot) (omega arith))
     ∙ c.loop-slot.invariant
-    ∙ sym (series-first g.V.StepVisitor.after form text c.args.v.now c.args.start c.setting.new.self (g.S.SettingKind.numbers c.in-ok-first.first) c.in-ok-first.after
-    (numbers-ok g.S.SettingKind.numbers c.read-setting.result (form.reads text c.args.start) c.in-ok-first.first c.in-ok-first.after c.read-setting.ensures c.in-ok-first.was)
+    ∙ sym (series-first g.V.StepVisitor.after form text c.args.v.now c.args.start c.setting.new.self (g.S.SettingKind.numbers c.in_ok-first.first) c.in_ok-first.after
+    (numbers-ok g.S.SettingKind.numbers c.read_setting.result (form.reads text c.args.start) c.in_ok-first.first c.in_ok-first.after c.read_setting.ensures c.in_ok-first.was)
     c.setting.ensures)

@@ -6,25 +6,25 @@ use Rattle.shared_notice.specs.Walks.{kind_of, walked, bucket_events, slot_event
 use Rattle.shared_notice.proofs.Steps.{step-bucket, step-slot}
 use Rattle.shared_notice.proofs.notice.walk_step.Goals as goal
 
-pub returns-then-is-word : goal.returns-then-is-word
-returns-then-is-word g c =
+pub returns-then-is_word : goal.returns-then-is_word
+returns-then-is_word g c =
     let text = c.args.text.now in
     let kind = kind_of g.S.SettingKind.count g.S.SettingKind.lawful g.S.SettingKind.blanks in
-    let p = c.in-ok-at.at in
+    let p = c.in_ok-at.at in
     let opened : toks_at (mark Open ∷ []) text c.args.at ≡ Ok p = search rules in
-    let length-is = c.len.ensures ∙ ap size c.next-token-token.ensures.token in
-    c.walk-bucket.ensures
+    let length-is = c.len.ensures ∙ ap size c.next_token-token.ensures.token in
+    c.walk_bucket.ensures
     ∙ ap (λ n. walked g.V.StepVisitor.after bucket_events c.args.v.now ((bucket_form kind).reads text (p + n))) length-is
-    ∙ sym (step-bucket g.V.StepVisitor.after kind text c.args.v.now c.args.at p opened (ap (is_word (codes "bucket")) (sym c.next-token-token.ensures.token) ∙ sym c.if-is-word.ensures))
+    ∙ sym (step-bucket g.V.StepVisitor.after kind text c.args.v.now c.args.at p opened (ap (is_word (codes "bucket")) (sym c.next_token-token.ensures.token) ∙ sym c.if-is_word.ensures))
 
-pub returns-then-is-word-2 : goal.returns-then-is-word-2
-returns-then-is-word-2 g c =
+pub returns-then-is_word-2 : goal.returns-then-is_word-2
+returns-then-is_word-2 g c =
     let text = c.args.text.now in
     let kind = kind_of g.S.SettingKind.count g.S.SettingKind.lawful g.S.SettingKind.blanks in
-    let p = c.in-ok-at.at in
+    let p = c.in_ok-at.at in
     let opened : toks_at (mark Open ∷ []) text c.args.at ≡ Ok p = search rules in
-    let length-is = c.len.ensures ∙ ap size c.next-token-token.ensures.token in
-    c.walk-slot.ensures
+    let length-is = c.len.ensures ∙ ap size c.next_token-token.ensures.token in
+    c.walk_slot.ensures
     ∙ ap (λ n. walked g.V.StepVisitor.after slot_events c.args.v.now ((slot_form kind).reads text (p + n))) length-is
-    ∙ sym (step-slot g.V.StepVisitor.after kind text c.args.v.now c.args.at p opened (ap (is_word (codes "bucket")) (sym c.next-token-token.ensures.token) ∙ sym c.if-is-word.ensures)
-    (ap (is_word (codes "slot")) (sym c.next-token-token.ensures.token) ∙ sym c.if-is-word-2.ensures))
+    ∙ sym (step-slot g.V.StepVisitor.after kind text c.args.v.now c.args.at p opened (ap (is_word (codes "bucket")) (sym c.next_token-token.ensures.token) ∙ sym c.if-is_word.ensures)
+    (ap (is_word (codes "slot")) (sym c.next_token-token.ensures.token) ∙ sym c.if-is_word-2.ensures))

@@ -7,8 +7,8 @@ use Rattle.shared_notice.specs.Walks.{kind_of, walked}
 use Rattle.shared_notice.proofs.Seen.{walk-on, walk-stops, walked-first}
 use Rattle.shared_notice.proofs.notice.walk_steps.Goals as goal
 
-pub returns-in-err-at : goal.returns-in-err-at
-returns-in-err-at g c =
+pub returns-in_err-at : goal.returns-in_err-at
+returns-in_err-at g c =
     let after = g.V.StepVisitor.after in
     let text = c.args.text.now in
     let form = step_form (kind_of g.S.SettingKind.count g.S.SettingKind.lawful g.S.SettingKind.blanks) in
@@ -16,8 +16,8 @@ returns-in-err-at g c =
     let p = err_from_is_err_and c.from-residual.result c.from-residual.ensures.1 in
     rw (p.1, p.2)
     (sym (walked-first after c.loop-i.v form text c.loop-i.at (c.args.count - c.loop-i.-i) left (omega arith)
-    ∙ walk-stops c.walk-step.new.v c.walk-step.result (walked after step_events c.loop-i.v (form.reads text c.loop-i.at))
-    (λ x. walked after events_of x.0 (times_at left form text x.1)) c.in-err-at.field-0.0 c.walk-step.ensures c.in-err-at.was)
+    ∙ walk-stops c.walk_step.new.v c.walk_step.result (walked after step_events c.loop-i.v (form.reads text c.loop-i.at))
+    (λ x. walked after events_of x.0 (times_at left form text x.1)) c.in_err-at.field-0.0 c.walk_step.ensures c.in_err-at.was)
     ∙ c.loop-i.invariant)
 
 pub loop-i-preserved : goal.loop-i-preserved
@@ -27,6 +27,6 @@ loop-i-preserved g c =
     let form = step_form (kind_of g.S.SettingKind.count g.S.SettingKind.lawful g.S.SettingKind.blanks) in
     let left = c.args.count - (c.loop-i.-i + 1) in
     sym (walked-first after c.loop-i.v form text c.loop-i.at (c.args.count - c.loop-i.-i) left (omega arith)
-    ∙ walk-on c.walk-step.new.v c.walk-step.result (walked after step_events c.loop-i.v (form.reads text c.loop-i.at))
-    (λ x. walked after events_of x.0 (times_at left form text x.1)) c.in-ok-at.at c.walk-step.ensures c.in-ok-at.was)
+    ∙ walk-on c.walk_step.new.v c.walk_step.result (walked after step_events c.loop-i.v (form.reads text c.loop-i.at))
+    (λ x. walked after events_of x.0 (times_at left form text x.1)) c.in_ok-at.at c.walk_step.ensures c.in_ok-at.was)
     ∙ c.loop-i.invariant

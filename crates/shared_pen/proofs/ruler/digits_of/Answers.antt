@@ -3,8 +3,8 @@ use Rattle.shared_pen.specs.Pens.{number_text}
 use Rattle.shared_pen.proofs.Digits.{length-digit, length-step, length-few, length-numeral}
 use Rattle.shared_pen.proofs.ruler.digits_of.Goals as goal
 
-pub overflow-add-count : goal.overflow-add-count
-overflow-add-count c = omega (arith, length-few c.args.n (omega arith), c.loop-front.invariant.1)
+pub overflow_add-count : goal.overflow_add-count
+overflow_add-count c = omega (arith, length-few c.args.n (omega arith), c.loop-front.invariant.1)
 
 pub loop-front-preserved : goal.loop-front-preserved
 loop-front-preserved c =

@@ -17,19 +17,19 @@ returns-in-32 c = record { place = refl; token = sym (mark_at c.args.text.now c.
 pub returns-in-10 : goal.returns-in-10
 returns-in-10 c = record { place = refl; token = sym (mark_at c.args.text.now c.args.at 10 c.if-at-text.false c.in-10.is); within = omega arith }
 
-pub returns-then-is-word-byte : goal.returns-then-is-word-byte
-returns-then-is-word-byte c =
-    let n = c.word-end-end.result in
+pub returns-then-is_word_byte : goal.returns-then-is_word_byte
+returns-then-is_word_byte c =
+    let n = c.word_end-end.result in
     record {
       place = refl;
-      token = sym (word_at c.args.text.now c.args.at _ c.if-at-text.false (omega arith) (omega arith) (omega arith) (omega arith) (sym c.if-is-word-byte.ensures) (omega arith));
+      token = sym (word_at c.args.text.now c.args.at _ c.if-at-text.false (omega arith) (omega arith) (omega arith) (omega arith) (sym c.if-is_word_byte.ensures) (omega arith));
       within = simp (length-take, length-drop) (omega arith);
     }
 
-pub returns-else-is-word-byte : goal.returns-else-is-word-byte
-returns-else-is-word-byte c =
+pub returns-else-is_word_byte : goal.returns-else-is_word_byte
+returns-else-is_word_byte c =
     record {
       place = refl;
-      token = sym (stray_at c.args.text.now c.args.at c.if-at-text.false (omega arith) (omega arith) (omega arith) (omega arith) (sym c.if-is-word-byte.ensures));
+      token = sym (stray_at c.args.text.now c.args.at c.if-at-text.false (omega arith) (omega arith) (omega arith) (omega arith) (sym c.if-is_word_byte.ensures));
       within = omega arith;
     }

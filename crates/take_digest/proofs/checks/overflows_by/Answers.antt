@@ -12,15 +12,15 @@ pub loop-head-init : goal.loop-head-init
 loop-head-init c = record {
   seed = seed_of c.args.seeds.now c.args.overflow.now;
   decides = refl;
-  count = c.used-in-used.ensures ∙ c.requires.sound.count;
-  few = omega (arith, c.used-in-used.ensures, used_few c.args.overflow.now, c.requires.long.1);
+  count = c.used_in-used.ensures ∙ c.requires.sound.count;
+  few = omega (arith, c.used_in-used.ensures, used_few c.args.overflow.now, c.requires.long.1);
   same = λ k m. refl;
   once = c.requires.once;
   inside = c.requires.inside;
 }
 
-pub count-after-used-requires : goal.count-after-used-requires
-count-after-used-requires c =
+pub count_after-used-requires : goal.count_after-used-requires
+count_after-used-requires c =
     let seed = seed_of c.args.seeds.now c.args.overflow.now in
     let heads = c.args.heads.now in
     let k = c.loop-head.head-index in
@@ -39,7 +39,7 @@ returns-then-used-sizes c =
     let k = c.loop-head.head-index in
     sym (stop-counted c.args.sizes seed heads (get_or heads k (slot_head 0)) (drop (k + 1) heads) c.loop-head.used
     (counted-at c.args.sizes seed heads k c.loop-head.used (slot_head 0) c.loop-head-test.true c.loop-head.invariant)
-    c.count-after-used.result c.count-after-used.ensures c.if-used-sizes.true)
+    c.count_after-used.result c.count_after-used.ensures c.if-used-sizes.true)
 
 pub loop-head-preserved : goal.loop-head-preserved
 loop-head-preserved c =
@@ -48,7 +48,7 @@ loop-head-preserved c =
     let k = c.loop-head.head-index in
     next-counted c.args.sizes seed heads (get_or heads k (slot_head 0)) (drop (k + 1) heads) c.loop-head.used
     (counted-at c.args.sizes seed heads k c.loop-head.used (slot_head 0) c.loop-head-test.true c.loop-head.invariant)
-    c.count-after-used.result c.count-after-used.ensures c.if-used-sizes.false
+    c.count_after-used.result c.count_after-used.ensures c.if-used-sizes.false
 
 pub returns : goal.returns
 returns c =

@@ -10,10 +10,10 @@ loop-i-preserved c = (
   λ k h. get_or-set_other c.loop-i.cells c.loop-i.i k _ 0 (λ e. omega arith) ∙ c.loop-i.invariant.2 k (omega arith),
 )
 
-pub invariant-of-result : goal.invariant-of-result
-invariant-of-result c =
-    let all = copied_all c.loop-i.cells c.args.text.now c.loop-i.i (omega arith) c.loop-i.invariant.1 c.if-len-eq0.false c.if-len-gt16.false c.if-not-all-part-bytes.ensures in
+pub invariant_of-result : goal.invariant_of-result
+invariant_of-result c =
+    let all = copied_all c.loop-i.cells c.args.text.now c.loop-i.i (omega arith) c.loop-i.invariant.1 c.if-len-eq0.false c.if-len-gt16.false c.if-not-all_part_bytes.ensures in
     (c.loop-i.invariant.0, (omega arith, (all.0, (λ i h. c.loop-i.invariant.2 i (omega arith), tt))))
 
 pub returns : goal.returns
-returns c = (copied_all c.loop-i.cells c.args.text.now c.loop-i.i (omega arith) c.loop-i.invariant.1 c.if-len-eq0.false c.if-len-gt16.false c.if-not-all-part-bytes.ensures).1
+returns c = (copied_all c.loop-i.cells c.args.text.now c.loop-i.i (omega arith) c.loop-i.invariant.1 c.if-len-eq0.false c.if-len-gt16.false c.if-not-all_part_bytes.ensures).1

@@ -5,5 +5,5 @@ use Rattle.shared_kinds.proofs.set_number.SetNumberSettingKind.TheImpl.Goals as 
 pub apart-law : goal.apart-law
 apart-law s t e = same_set_number s t (ap (λ l. get_or l 0 0) e)
 
-pub read-back-law : goal.read-back-law
-read-back-law vs t = set-number_of vs t
+pub read_back-law : goal.read_back-law
+read_back-law vs t = set-number_of vs t

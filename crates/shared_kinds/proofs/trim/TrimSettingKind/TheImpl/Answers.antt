@@ -5,5 +5,5 @@ use Rattle.shared_kinds.proofs.trim.TrimSettingKind.TheImpl.Goals as goal
 pub apart-law : goal.apart-law
 apart-law s t e = same_trim s t (ap (λ l. get_or l 0 0) e) (ap (λ l. get_or l 1 0) e) (ap (λ l. get_or l 2 0) e)
 
-pub read-back-law : goal.read-back-law
-read-back-law vs t = trim_of vs t
+pub read_back-law : goal.read_back-law
+read_back-law vs t = trim_of vs t

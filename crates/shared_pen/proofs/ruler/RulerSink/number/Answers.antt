@@ -6,5 +6,5 @@ use Rattle.shared_pen.proofs.ruler.RulerSink.number.Goals as goal
 
 pub returns : goal.returns
 returns c =
-    ap (λ n. record { len = n }) (c.saturating-add-self.ensures ∙ ap (λ k. min (c.args.self.now.len + k) (2 ^ 64 - 1)) (c.digits-of.ensures ∙ length-numeral c.args.n))
+    ap (λ n. record { len = n }) (c.saturating_add-self.ensures ∙ ap (λ k. min (c.args.self.now.len + k) (2 ^ 64 - 1)) (c.digits_of.ensures ∙ length-numeral c.args.n))
     ∙ sym (ruled c.args.self.now (number_text c.args.n) (omega arith))
