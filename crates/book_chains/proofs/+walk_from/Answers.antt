@@ -12,8 +12,8 @@ pub returns-in_err-lowest_empty : goal.returns-in_err-lowest_empty
 returns-in_err-lowest_empty g t c =
     let slot = slot_in g.P.PartKind.bytes g.S.SettingKind.numbers c.args.slots.now in
     record {
-      is = ap (path_of c.args.moves) c.from-residual.ensures ∙ walk-shut c.args.sizes (g.F.HashFamily.hash c.args.family.now) slot c.args.moves (get_or c.args.trail c.args.depth 0) (drop c.args.depth c.args.trail) c.if-moves-eq0.true c.in_err-lowest_empty.ensures.is;
-      low = subst Picked (sym c.from-residual.ensures) tt;
+      is = ap (path_of c.args.moves) c.from_residual.ensures ∙ walk-shut c.args.sizes (g.F.HashFamily.hash c.args.family.now) slot c.args.moves (get_or c.args.trail c.args.depth 0) (drop c.args.depth c.args.trail) c.if-moves-eq0.true c.in_err-lowest_empty.ensures.is;
+      low = subst Picked (sym c.from_residual.ensures) tt;
     }
 
 -- no slot is picked yet

@@ -24,8 +24,8 @@ returns-in_err-spot g t c =
     let m = c.args.moves in
     let h : HeldPart = (g.P.PartKind.bytes c.args.part, g.S.SettingKind.numbers c.args.setting) in
     record {
-      is = ap (plan_of slot h) c.from-residual.ensures ∙ end_full z hash slot j h c.args.picks m c.if-moves-eq0.true c.in_err-spot.ensures.is;
-      made = subst (MadeIf z slot m) (sym c.from-residual.ensures) tt;
+      is = ap (plan_of slot h) c.from_residual.ensures ∙ end_full z hash slot j h c.args.picks m c.if-moves-eq0.true c.in_err-spot.ensures.is;
+      made = subst (MadeIf z slot m) (sym c.from_residual.ensures) tt;
     }
 
 pub returns-in_err-seed : goal.returns-in_err-seed
@@ -38,8 +38,8 @@ returns-in_err-seed g t c =
     let m = c.args.moves in
     let h : HeldPart = (g.P.PartKind.bytes c.args.part, g.S.SettingKind.numbers c.args.setting) in
     record {
-      is = ap (plan_of slot h) c.from-residual-in_err-seed.ensures ∙ end_at z hash slot j h c.args.picks m c.in_ok-spot.spot none c.if-moves-eq0.true c.in_ok-spot.ensures.is c.in_err-seed.ensures;
-      made = subst (MadeIf z slot m) (sym c.from-residual-in_err-seed.ensures) tt;
+      is = ap (plan_of slot h) c.from_residual-in_err-seed.ensures ∙ end_at z hash slot j h c.args.picks m c.in_ok-spot.spot none c.if-moves-eq0.true c.in_ok-spot.ensures.is c.in_err-seed.ensures;
+      made = subst (MadeIf z slot m) (sym c.from_residual-in_err-seed.ensures) tt;
     }
 
 pub returns-then-moves-eq0 : goal.returns-then-moves-eq0
@@ -94,8 +94,8 @@ returns-in_err-rest g t c =
     let next : c.other-next.result ≡ other z hash q.0 j = c.other-next.ensures ∙ other-is z hash q.0 c.places_of.result c.places_of.ensures j in
     let there = ap (λ (o : ℕ). planned z hash slot o q (down_from c.args.picks (m - 1))) next in
     record {
-      is = ap (plan_of slot h) c.from-residual-in_err-rest.ensures ∙ move_dead z hash slot j h c.args.picks m i pos refl q at (c.in_err-rest.ensures.is ∙ there);
-      made = subst (MadeIf z slot m) (sym c.from-residual-in_err-rest.ensures) tt;
+      is = ap (plan_of slot h) c.from_residual-in_err-rest.ensures ∙ move_dead z hash slot j h c.args.picks m i pos refl q at (c.in_err-rest.ensures.is ∙ there);
+      made = subst (MadeIf z slot m) (sym c.from_residual-in_err-rest.ensures) tt;
     }
 
 pub returns-in_err-seed-2 : goal.returns-in_err-seed-2
@@ -115,8 +115,8 @@ returns-in_err-seed-2 g t c =
     let next : c.other-next.result ≡ other z hash q.0 j = c.other-next.ensures ∙ other-is z hash q.0 c.places_of.result c.places_of.ensures j in
     let there = ap (λ (o : ℕ). planned z hash slot o q (down_from c.args.picks (m - 1))) next in
     record {
-      is = ap (plan_of slot h) c.from-residual-in_err-seed-2.ensures ∙ move_at z hash slot j h c.args.picks m i pos refl q (placements_of slot c.in_ok-rest.rest q) none at (c.in_ok-rest.ensures.is ∙ there) c.in_err-seed-2.ensures;
-      made = subst (MadeIf z slot m) (sym c.from-residual-in_err-seed-2.ensures) tt;
+      is = ap (plan_of slot h) c.from_residual-in_err-seed-2.ensures ∙ move_at z hash slot j h c.args.picks m i pos refl q (placements_of slot c.in_ok-rest.rest q) none at (c.in_ok-rest.ensures.is ∙ there) c.in_err-seed-2.ensures;
+      made = subst (MadeIf z slot m) (sym c.from_residual-in_err-seed-2.ensures) tt;
     }
 
 pub returns : goal.returns

@@ -8,7 +8,7 @@ pub returns-in_err-strip_prefix : goal.returns-in_err-strip_prefix
 returns-in_err-strip_prefix c =
     let front = c.args.front.now in
     let line = c.args.line.now in
-    stripped_none front line c.strip_prefix.result c.from-residual.result (strip_prefix_is Decides-eqb line front c.strip_prefix.result c.strip_prefix.ensures.cases) c.in_err-strip_prefix.was c.from-residual.ensures
+    stripped_none front line c.strip_prefix.result c.from_residual.result (strip_prefix_is Decides-eqb line front c.strip_prefix.result c.strip_prefix.ensures.cases) c.in_err-strip_prefix.was c.from_residual.ensures
 
 pub returns : goal.returns
 returns c =

@@ -12,7 +12,7 @@ pub returns-in_err-at-2 : goal.returns-in_err-at-2
 returns-in_err-at-2 g c =
     let after = g.V.StepVisitor.after in
     let text = c.args.text.now in
-    let p = err_from_is_err_and c.from-residual-in_err-at-2.result c.from-residual-in_err-at-2.ensures.1 in
+    let p = err_from_is_err_and c.from_residual-in_err-at-2.result c.from_residual-in_err-at-2.ensures.1 in
     rw (p.1, p.2)
     (sym (bucket_rest after (kind_of g.S.SettingKind.count g.S.SettingKind.lawful g.S.SettingKind.blanks) text c.args.v.now c.args.at c.walk_content.new.v c.walk_content.result c.in_ok-at.at c.walk_content.ensures c.in_ok-at.was
     ∙ walk-stops c.walk_rows.new.v c.walk_rows.result (walked after row_events c.walk_content.new.v ((pair a_form b_form).reads text c.in_ok-at.at))

@@ -9,7 +9,7 @@ use Rattle.shared_notice.proofs.notice.walk_places.Goals as goal
 pub returns-in_err-place : goal.returns-in_err-place
 returns-in_err-place g c =
     let text = c.args.text.now in
-    let p = err_from_is_err_and c.from-residual.result c.from-residual.ensures.1 in
+    let p = err_from_is_err_and c.from_residual.result c.from_residual.ensures.1 in
     let s : is_mark Space (token_of (drop c.loop-at.at text)) ≡ true = ap (is_mark Space) (sym c.next_token.ensures.token) ∙ sym c.loop-at-test.ensures in
     rw (p.1, p.2)
     (along_stops g.V.StepVisitor.after text c.loop-at.v c.loop-at.low c.loop-at.at (walked g.V.StepVisitor.after flips c.args.v.now ((ascending 65535).reads text c.args.start))

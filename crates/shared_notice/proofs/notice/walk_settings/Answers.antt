@@ -10,7 +10,7 @@ pub returns-in_err-setting : goal.returns-in_err-setting
 returns-in_err-setting g c =
     let text = c.args.text.now in
     let form = setting_form (kind_of g.S.SettingKind.count g.S.SettingKind.lawful g.S.SettingKind.blanks) in
-    let p = err_from_is_err_and c.from-residual-in_err-setting.result c.from-residual-in_err-setting.ensures.1 in
+    let p = err_from_is_err_and c.from_residual-in_err-setting.result c.from_residual-in_err-setting.ensures.1 in
     rw (p.1, p.2)
     (sym (settings-stop g.V.StepVisitor.after form text c.loop-slot.v c.loop-slot.at c.loop-slot.slot (4 - c.loop-slot.slot) (4 - (c.loop-slot.slot + 1)) c.in_err-setting.field-0.0 (omega arith)
     (numbers-err g.S.SettingKind.numbers c.read_next_setting.result ((lead gap form).reads text c.loop-slot.at) c.in_err-setting.field-0.0 c.read_next_setting.ensures c.in_err-setting.was))

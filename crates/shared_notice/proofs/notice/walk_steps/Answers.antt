@@ -13,7 +13,7 @@ returns-in_err-at g c =
     let text = c.args.text.now in
     let form = step_form (kind_of g.S.SettingKind.count g.S.SettingKind.lawful g.S.SettingKind.blanks) in
     let left = c.args.count - (c.loop-i.-i + 1) in
-    let p = err_from_is_err_and c.from-residual.result c.from-residual.ensures.1 in
+    let p = err_from_is_err_and c.from_residual.result c.from_residual.ensures.1 in
     rw (p.1, p.2)
     (sym (walked-first after c.loop-i.v form text c.loop-i.at (c.args.count - c.loop-i.-i) left (omega arith)
     ∙ walk-stops c.walk_step.new.v c.walk_step.result (walked after step_events c.loop-i.v (form.reads text c.loop-i.at))

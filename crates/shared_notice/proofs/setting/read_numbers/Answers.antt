@@ -12,7 +12,7 @@ front_more values i x h ys = sym (ap (λ l. l ++ ys) (ap (λ n. take n (set valu
 
 pub returns-in_err-value : goal.returns-in_err-value
 returns-in_err-value c =
-    let p = err_from_is_err_and c.from-residual-in_err-value.result c.from-residual-in_err-value.ensures.1 in
+    let p = err_from_is_err_and c.from_residual-in_err-value.result c.from_residual-in_err-value.ensures.1 in
     let q = times-stops (lead gap small) c.args.text.now (λ ys. take c.loop-i.i c.loop-i.values ++ ys) c.loop-i.at (c.args.width - c.loop-i.i) (c.args.width - (c.loop-i.i + 1)) c.in_err-value.field-0.0 (omega arith) (sym c.read_next_small.ensures ∙ c.in_err-value.was) in
     rw (p.1, p.2) (sym q ∙ c.loop-i.invariant.1)
 

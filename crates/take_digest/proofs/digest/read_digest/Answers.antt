@@ -8,7 +8,7 @@ use Rattle.take_digest.proofs.digest.read_digest.Goals as goal
 
 pub returns-in_err-number : goal.returns-in_err-number
 returns-in_err-number g c =
-    let p = err_from_is_err_and c.from-residual.result c.from-residual.ensures.1 in
+    let p = err_from_is_err_and c.from_residual.result c.from_residual.ensures.1 in
     let kind = kind_of g.S.SettingKind.count g.S.SettingKind.lawful g.S.SettingKind.blanks in
     subst (DigestRead kind c.args.sizes c.args.text.now) (sym (p.1 ∙ ap Err p.2))
     (digest_read kind c.args.sizes c.args.text.now c.new-digest.result c.walk_notice.new.v (Err c.in_err-number.field-0.0) c.new-digest.ensures c.in_err-number.ensures)
