@@ -1,2 +1,4 @@
 pub mod Parts
 pub mod Settings
+pub mod PartLaws
+pub mod SettingLaws

@@ -2,6 +2,7 @@
 ghost use Rattle.std.specs.Prelude.{◌≡◌, ℕ, ◌≤◌, true, length, take, slice_index};
 ghost use Rattle.shared.specs.Answers.{answer};
 ghost use Rattle.shared_kinds.specs.Parts.{part_byte, all_pass, is_part_number, part_number_asked};
+ghost use Rattle.shared_kinds.specs.PartLaws.{Cells, part_number-low, same_length, same_cells};
 ghost use Rattle.std.proofs.Common.{rules, arith};
 
 use shared::kinds::PartKind;
@@ -59,9 +60,14 @@ impl PartKind for PartNumber {
 
     ghost few = { first_of (Prim.search rules, Prim.grind (arith, Self.row.coded.inj)) };
 
-    ghost low = { first_of (Prim.search rules, Prim.grind (arith, Self.row.coded.inj)) };
+    ghost low = { λ p i. part_number-low (take p.len p.cells) p.allowed i };
 
-    ghost apart = { first_of (Prim.search rules, Prim.grind (arith, Self.row.coded.inj)) };
+    ghost apart = { λ p q e.
+        let x : Cells p.len p.cells = record { sixteen = p.sixteen; few = p.few; clear = p.clear } in
+        let y : Cells q.len q.cells = record { sixteen = q.sixteen; few = q.few; clear = q.clear } in
+        let len = same_length p.len q.len p.cells q.cells x y e in
+        let cells = same_cells p.len q.len p.cells q.cells x y e in
+        Prim.grind (arith, Self.row.coded.inj) };
 
     fn as_bytes(&self) -> &[u8] {
         &self.cells[0..self.len]

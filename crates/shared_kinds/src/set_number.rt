@@ -1,6 +1,7 @@
 // A set number: a setting that is one number from 0 to 65,535. The blank is 0.
-ghost use Rattle.std.specs.Prelude.{◌≡◌, ℕ, ◌<◌, [], ◌∷◌};
+ghost use Rattle.std.specs.Prelude.{◌≡◌, ℕ, ◌<◌, [], ◌∷◌, slice_index};
 ghost use Rattle.shared_kinds.specs.Settings.{is_set_number};
+ghost use Rattle.shared_kinds.specs.SettingLaws.{set_number-list};
 ghost use Rattle.std.proofs.Common.{rules, arith};
 
 use shared::kinds::SettingKind;
@@ -38,7 +39,7 @@ impl SettingKind for SetNumber {
 
     ghost blank_lawful = { first_of (Prim.search rules, Prim.grind (arith, Self.row.coded.inj)) };
 
-    ghost read_back = { first_of (Prim.search rules, Prim.grind (arith, Self.row.coded.inj)) };
+    ghost read_back = { λ vs t. let h = set_number-list vs t in (record { value = slice_index vs 0; low = h.low }, h.listed) };
 
     fn width() -> usize {
         WIDTH

@@ -1,7 +1,8 @@
 // A trim: advance in tenths of a degree, fuel in thousandths and dwell in microseconds. The blank is 0, 1000, 0.
-ghost use Rattle.std.specs.Prelude.{◌≡◌, ℕ, ◌≤◌, [], ◌∷◌};
+ghost use Rattle.std.specs.Prelude.{◌≡◌, ℕ, ◌≤◌, [], ◌∷◌, slice_index};
 ghost use Rattle.shared.specs.Answers.{answer};
 ghost use Rattle.shared_kinds.specs.Settings.{is_trim, trim_asked};
+ghost use Rattle.shared_kinds.specs.SettingLaws.{trim-list};
 ghost use Rattle.std.proofs.Common.{rules, arith};
 
 use shared::kinds::SettingKind;
@@ -53,7 +54,9 @@ impl SettingKind for Trim {
 
     ghost blank_lawful = { first_of (Prim.search rules, Prim.grind (arith, Self.row.coded.inj)) };
 
-    ghost read_back = { first_of (Prim.search rules, Prim.grind (arith, Self.row.coded.inj)) };
+    ghost read_back = { λ vs t.
+        let h = trim-list vs t in
+        (record { advance = slice_index vs 0; fuel = slice_index vs 1; dwell = slice_index vs 2; few_advance = h.few_advance; some_fuel = h.some_fuel; few_fuel = h.few_fuel; few_dwell = h.few_dwell }, h.listed) };
 
     fn width() -> usize {
         WIDTH

@@ -13,7 +13,7 @@ loop-i-preserved c = (
 pub invariant_of-result : goal.invariant_of-result
 invariant_of-result c =
     let all = copied_all c.loop-i.cells c.args.text.now c.loop-i.i (omega arith) c.loop-i.invariant.1 c.if-len-eq0.false c.if-len-gt16.false c.if-not-all_part_bytes.ensures in
-    (c.loop-i.invariant.0, (omega arith, (all.0, (λ i h. c.loop-i.invariant.2 i (omega arith), tt))))
+    record { sixteen = c.loop-i.invariant.0; few = omega arith; allowed = all.0; clear = λ i h. c.loop-i.invariant.2 i (omega arith) }
 
 pub returns : goal.returns
 returns c = (copied_all c.loop-i.cells c.args.text.now c.loop-i.i (omega arith) c.loop-i.invariant.1 c.if-len-eq0.false c.if-len-gt16.false c.if-not-all_part_bytes.ensures).1
