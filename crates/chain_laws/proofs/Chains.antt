@@ -1,7 +1,7 @@
 -- Chains that the searches walk, and how a part is placed along one.
 use Rattle.std.proofs.Common.{◌≡◌, ℕ, zero, suc, ◌+◌, ◌<◌, Bool, true, false, cond, eqb, ◌⊎◌, List, [], ◌∷◌, ◌++◌, map, length, sym, refl, ap, ◌∙◌, subst, inl, inr, arith}
 use mathlib.Core.Option.{Option, none, some}
-use Rattle.std.proofs.lemmas.Bool.{eq-eqb, ne_eqb, both_ways, or_left, or_right, or_from}
+use Rattle.std.proofs.lemmas.Bool.{ne_eqb, both_ways, or_right, or_from}
 use Rattle.shared.specs.declared.sizes.Sizes.{Sizes}
 use Rattle.shared.specs.Book.{Held, Slot, Book, part_of, is_empty, empty_slot, slots, seed_for, other, walk, chain, holding, book_after, step_for, written, placed}
 use Rattle.shared.specs.Kinds.{Hash}

@@ -2,7 +2,7 @@
 use Rattle.std.specs.Prelude.{◌≡◌, ℕ, ◌-◌, Bool, false, ◌||◌, List, [], ◌∷◌, ◌++◌, map, nat_le, nat_lt}
 use Rattle.std.proofs.Math.Option.{Option, some}
 use Rattle.shared.specs.declared.sizes.Sizes.{Sizes}
-use Rattle.shared.specs.Book.{Held, Slot, Book, part_of, contents, empty_slot, seed_for, value_at, other, turned, book_after, step_for, placed}
+use Rattle.shared.specs.Book.{Held, Slot, Book, part_of, contents, empty_slot, seed_for, value_at, other, turned, book_after, placed}
 use Rattle.shared.specs.Graph.{flipped}
 use Rattle.shared.specs.Kinds.{Hash}
 use Rattle.shared.specs.Lists.{memb, kept, at, at2, ◌then◌}

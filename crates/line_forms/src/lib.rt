@@ -1,4 +1,6 @@
 // Lines and the forms in them, as the programs of this repository read and print them.
+#![tactic(auto)]
+
 ghost use Rattle.std.specs.Prelude.{◌≡◌, [], ◌∷◌, ◌++◌, MatchOption, OnOk};
 ghost use Rattle.std.proofs.Math.Option.{none, some};
 ghost use Rattle.line_forms.specs.Fronts.{inside_of, first_of};

@@ -4,9 +4,8 @@ use Rattle.std.proofs.Math.Option.{Option, none, some}
 use Rattle.shared.specs.declared.refusal.Cause.{Cause}
 use Rattle.shared.specs.declared.refusal.Cause.TheVariants.{Byte, Word, Setting}
 use Rattle.shared.specs.declared.refusal.Fault.{Fault}
-use Rattle.shared.specs.declared.refusal.SettingFault.{SettingFault}
 use Rattle.shared.specs.Limits.{between}
-use Rattle.shared.specs.Tokens.{Mark, Open, Close, Space, Line, Tok, mark, word, stray, end, token_of, spell, size, is_mark, is_word, is_end, numeral, number_in}
+use Rattle.shared.specs.Tokens.{Close, Space, Tok, mark, word, stray, end, token_of, size, is_mark, is_word, is_end, numeral, number_in}
 
 -- from a place of a text: what is read, or the fault of the first wrong token
 abbrev pub Reading : Type 0 → Type 0

@@ -1,8 +1,8 @@
 -- A notice: the update message that tells a controller of one accepted call.
-use Rattle.std.specs.Prelude.{ℕ, ◌+◌, ◌-◌, Bool, true, false, cond, ◌&&◌, List, [], ◌∷◌, ◌++◌, length, drop, Ok, Err, codes, Result}
+use Rattle.std.specs.Prelude.{ℕ, ◌+◌, ◌-◌, Bool, cond, ◌&&◌, List, [], ◌∷◌, ◌++◌, length, drop, Ok, codes, Result}
 use Rattle.shared.specs.declared.refusal.Fault.{Fault}
 use Rattle.shared.specs.Forms.{Form, Reading, and_then, wrong, num, lead, trail, pair, times, times_tokens, times_fits, series, ascending, judged, read_whole}
-use Rattle.shared.specs.Tokens.{Mark, Open, Close, Space, Line, Tok, mark, word, token_of, is_word, size, spell}
+use Rattle.shared.specs.Tokens.{Open, Close, Space, Line, Tok, mark, word, token_of, is_word, size, spell}
 
 -- A setting is its list of numbers.
 abbrev pub Setting : Type 0

@@ -1,5 +1,5 @@
 -- The hash families.
-use Rattle.std.specs.Prelude.{◌≡◌, ℕ, ◌+◌, ◌*◌, ◌/◌, ◌%◌, ◌^◌, ◌<◌, cond, List, [], ◌∷◌, fold, bit_xor, nat_lt}
+use Rattle.std.specs.Prelude.{◌≡◌, ℕ, ◌+◌, ◌*◌, ◌/◌, ◌%◌, ◌^◌, ◌<◌, cond, List, ◌∷◌, fold, bit_xor, nat_lt}
 use Rattle.shared.specs.Kinds.{Hash}
 
 -- what a family hashes: the seed's high byte, its low byte, then the part's bytes

@@ -2,7 +2,7 @@
 use Rattle.std.specs.Prelude.{◌≡◌, ℕ, ◌+◌, ◌*◌, ◌/◌, ◌^◌, ◌<◌, List, fold, bit_xor, refl}
 use Rattle.std.proofs.Common.{mod-lt, arith, lit<}
 use Rattle.shared_families.specs.declared.pearson.Lanes.{Lanes}
-use Rattle.shared_families.specs.Hashes.{lane, lane_step, packed, pearson, seeded}
+use Rattle.shared_families.specs.Hashes.{lane, lane_step, pearson, seeded}
 use Rattle.shared_families.specs.Lanes.{lanes_step, lanes_number}
 use Rattle.shared_families.specs.Folds.{folded_below, folded_seen}
 

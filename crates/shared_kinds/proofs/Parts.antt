@@ -1,7 +1,7 @@
 -- Parts as lists of bytes.
-use Rattle.std.proofs.Common.{◌≡◌, ℕ, zero, suc, ◌+◌, ◌<◌, ◌≤◌, Bool, true, false, ◌&&◌, ◌||◌, eqb, leb, List, [], ◌∷◌, ◌++◌, length, get_or, take, drop, set, sym, refl, ap, ◌∙◌, ⊎_elim, arith, lit<}
-use Rattle.std.proofs.lemmas.List.{ext_get_or, get_or-take, length-take-le, at_drop_more, at_drop_all, take_more, take_more_set, take_all}
-use Rattle.std.proofs.lemmas.Bool.{and_parts, and_from, and_left, cond-true, le-leb, or_cases, eqb-true, leb-true, cases_lt}
+use Rattle.std.proofs.Common.{◌≡◌, ℕ, ◌+◌, ◌<◌, ◌≤◌, Bool, true, false, ◌&&◌, leb, List, [], ◌∷◌, ◌++◌, length, get_or, take, drop, set, sym, ap, ◌∙◌, arith}
+use Rattle.std.proofs.lemmas.List.{at_drop_more, at_drop_all, take_more, take_more_set, take_all}
+use Rattle.std.proofs.lemmas.Bool.{and_from, and_left, cond-true, le-leb}
 use Rattle.shared.specs.Answers.{accepted, refused_with}
 use Rattle.shared.specs.Limits.{between}
 use Rattle.shared_kinds.specs.Parts.{part_byte, all_pass, is_part_number, part_number_asked}

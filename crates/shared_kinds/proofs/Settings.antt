@@ -1,8 +1,7 @@
 -- Settings as lists of numbers.
-use Rattle.std.proofs.Common.{◌≡◌, ℕ, ◌<◌, ◌≤◌, Bool, true, false, cond, ◌&&◌, eqb, leb, List, [], ◌∷◌, length, get_or, sym, refl, ap, ◌∙◌, arith, rules}
-use Rattle.std.proofs.lemmas.Bool.{and_parts, cond-true, eqb-true, leb-true}
+use Rattle.std.proofs.Common.{◌≡◌, ℕ, Bool, true, List, sym, ap, ◌∙◌}
+use Rattle.std.proofs.lemmas.Bool.{cond-true}
 use Rattle.shared.specs.Answers.{accepted, refused_with}
-use Rattle.shared.specs.Limits.{between}
 use Rattle.shared.specs.Kinds.{setting_asked}
 
 -- a list that is read as it stands

@@ -1,5 +1,5 @@
 -- What the laws of part kinds rest on: the bytes of a part number are below 256, and its text settles its length and its cells.
-use Rattle.std.specs.Prelude.{◌≡◌, ℕ, ◌<◌, ◌≤◌, Bool, true, ◌&&◌, ◌||◌, List, [], ◌∷◌, length, take, slice_index}
+use Rattle.std.specs.Prelude.{◌≡◌, ℕ, ◌<◌, ◌≤◌, true, ◌||◌, List, [], ◌∷◌, length, take, slice_index}
 use Rattle.std.proofs.Common.{zero, suc, eqb, leb, sym, ap, ◌∙◌, ⊎_elim, arith, lit<, get_or}
 use Rattle.std.proofs.lemmas.List.{ext_get_or, get_or-take, length-take-le}
 use Rattle.std.proofs.lemmas.Bool.{and_parts, or_cases, eqb-true, leb-true, cases_lt}

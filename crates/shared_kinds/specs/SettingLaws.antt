@@ -1,5 +1,5 @@
 -- What the laws of setting kinds rest on: a lawful list of numbers is its own first numbers, each within its limits.
-use Rattle.std.specs.Prelude.{◌≡◌, ℕ, ◌≤◌, ◌<◌, Bool, true, ◌&&◌, List, [], ◌∷◌, length, slice_index}
+use Rattle.std.specs.Prelude.{◌≡◌, ℕ, ◌≤◌, ◌<◌, true, ◌&&◌, List, [], ◌∷◌, length, slice_index}
 use Rattle.std.proofs.Common.{eqb, leb, sym, refl, arith, get_or}
 use Rattle.std.proofs.lemmas.Bool.{and_parts, eqb-true, leb-true}
 use Rattle.shared.specs.Limits.{between}

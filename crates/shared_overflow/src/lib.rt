@@ -1,4 +1,6 @@
 // The overflow entries: the seeds that do not fit a bucket's field, in any order, some of the entries unused.
+#![tactic(auto)]
+
 ghost use Rattle.std.specs.Prelude.{◌≡◌, ◌<◌, ◌≤◌, length};
 ghost use Rattle.shared_overflow.specs.Overflow.{mine, seed_in, times, used_in, first_mine, first_free, Put, Freed};
 

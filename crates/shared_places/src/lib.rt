@@ -1,5 +1,7 @@
 // Where hashing puts a part: its two buckets, its edge between the rows, its slot under a seed; and whether two parts are the
 // same.
+#![tactic(auto)]
+
 ghost use Rattle.std.specs.Prelude.{◌≡◌, ◌+◌, ◌<◌};
 ghost use Rattle.shared.specs.Lists.{same_list};
 ghost use Rattle.shared.specs.Table.{slot_of};

@@ -1,5 +1,5 @@
 -- A notice's steps, piece by piece, in the order of its text: what a pass over the text sees, with no step stored.
-use Rattle.std.specs.Prelude.{ℕ, zero, suc, List, [], ◌∷◌, ◌++◌, map}
+use Rattle.std.specs.Prelude.{ℕ, suc, List, [], ◌∷◌, ◌++◌, map}
 use Rattle.shared.specs.Notice.{Setting, Step, bucket, single}
 
 pub data Event : Type 0 where

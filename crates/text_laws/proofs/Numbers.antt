@@ -1,13 +1,13 @@
 -- Number words: what is written of a number is read back, and no other word is.
-use Rattle.std.proofs.Common.{◌≡◌, ℕ, ◌^◌, ◌<◌, ◌≤◌, true, ◌&&◌, leb, List, [], ◌∷◌, length, get_or, decimal, sym, refl, ap, ◌∙◌, ⊎_elim, arith, rules}
+use Rattle.std.proofs.Common.{◌≡◌, ℕ, ◌^◌, ◌<◌, true, ◌&&◌, List, [], length, decimal, sym, ap, ◌∙◌, ⊎_elim, arith, rules}
 use mathlib.Core.Option.{none, some}
 use Rattle.std.proofs.lemmas.List.{append-nil}
 use Rattle.std.proofs.lemmas.Str.Parse.{IsNumeralModel, numerals_by_fold}
 use Rattle.std.proofs.lemmas.Fmt.{PrependsLastDigit, decimal_from_prepends, decimal-digits_value, digits_value-decimal, digits_decimal, decimal_nonempty, first_decimal, decimal_digit, length-decimal-le}
-use Rattle.std.proofs.lemmas.Bool.{cond-true, cond-false, cases_Bool, cases_eq, false≢true, and_parts, and_from, leb-true, le-leb}
+use Rattle.std.proofs.lemmas.Bool.{cond-true, cond-false, cases_Bool, cases_eq, and_parts, and_from}
 use Rattle.shared.proofs.Words.{between-parts, Plain, plain_parts, plain_from}
 use Rattle.shared.specs.Limits.{between}
-use Rattle.shared.specs.Tokens.{digit, digits_onto, numeral, read_on, all_digits, plain_digits, number_in}
+use Rattle.shared.specs.Tokens.{digits_onto, numeral, read_on, all_digits, plain_digits, number_in}
 
 own : IsNumeralModel (λ ds. all_digits ds ≡ true) (read_on 0)
 own = numerals_by_fold (λ ds. all_digits ds ≡ true) (search rules) read_on (search rules)

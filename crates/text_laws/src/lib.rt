@@ -1,5 +1,7 @@
 // The laws of the texts: what is read of a notice is what was written, and a refused text is refused at its first wrong token.
 // Each function carries theorems in its contract, and does nothing.
+#![tactic(auto)]
+
 ghost use Rattle.shared.specs.Notice.{Kind};
 ghost use Rattle.text_laws.specs.Faults.{FaultsFirst};
 ghost use Rattle.text_laws.specs.Texts.{FormLaws, Faithful};

@@ -1,5 +1,5 @@
 -- A field is read from its word.
-use Rattle.std.proofs.Common.{ℕ, ◌*◌, ◌/◌, ◌%◌, ◌^◌, sym, ap, ◌∙◌, rules}
+use Rattle.std.proofs.Common.{ℕ, ◌*◌, ◌/◌, ◌%◌, ◌^◌, sym, ap, ◌∙◌}
 use lib.Bits.{and_mask}
 use Rattle.shared_bits.proofs.Words.{field_word}
 use Rattle.shared_bits.proofs.fields.read_field.Goals as goal

@@ -1,5 +1,5 @@
 -- The one bit shifted is a power of two.
-use Rattle.std.proofs.Common.{ℕ, ◌/◌, ◌%◌, ◌^◌, get_or, set, ap, arith, rules}
+use Rattle.std.proofs.Common.{ℕ, ◌/◌, ◌%◌, get_or, set, ap, arith}
 use lib.Bits.{bit_xor}
 use Rattle.std.proofs.lemmas.Nat.{one_shl}
 use Rattle.shared_bits.specs.Bits.{flip_at}

@@ -1,5 +1,5 @@
 -- A shift and a mask read one bit.
-use Rattle.std.proofs.Common.{ℕ, ◌/◌, ◌%◌, ◌^◌, eqb, get_or, ap, rules}
+use Rattle.std.proofs.Common.{ℕ, ◌/◌, ◌%◌, ◌^◌, eqb, get_or, ap}
 use lib.Bits.{and_mask}
 use Rattle.shared_bits.specs.Bits.{bit_at, lit}
 use Rattle.shared_bits.proofs.rows.row_bit.Goals as goal
