@@ -12,10 +12,10 @@ returns-in_err-at g c =
     let after = g.V.StepVisitor.after in
     let text = c.args.text.now in
     let form = step_form (kind_of g.S.SettingKind.count g.S.SettingKind.lawful g.S.SettingKind.blanks) in
-    let left = c.args.count - (c.loop-i.-i + 1) in
+    let left = c.args.count - (c.loop-i._i + 1) in
     let p = err_from_is_err_and c.from_residual.result c.from_residual.ensures.1 in
     rw (p.1, p.2)
-    (sym (walked-first after c.loop-i.v form text c.loop-i.at (c.args.count - c.loop-i.-i) left (omega arith)
+    (sym (walked-first after c.loop-i.v form text c.loop-i.at (c.args.count - c.loop-i._i) left (omega arith)
     ∙ walk-stops c.walk_step.new.v c.walk_step.result (walked after step_events c.loop-i.v (form.reads text c.loop-i.at))
     (λ x. walked after events_of x.0 (times_at left form text x.1)) c.in_err-at.field-0.0 c.walk_step.ensures c.in_err-at.was)
     ∙ c.loop-i.invariant)
@@ -25,8 +25,8 @@ loop-i-preserved g c =
     let after = g.V.StepVisitor.after in
     let text = c.args.text.now in
     let form = step_form (kind_of g.S.SettingKind.count g.S.SettingKind.lawful g.S.SettingKind.blanks) in
-    let left = c.args.count - (c.loop-i.-i + 1) in
-    sym (walked-first after c.loop-i.v form text c.loop-i.at (c.args.count - c.loop-i.-i) left (omega arith)
+    let left = c.args.count - (c.loop-i._i + 1) in
+    sym (walked-first after c.loop-i.v form text c.loop-i.at (c.args.count - c.loop-i._i) left (omega arith)
     ∙ walk-on c.walk_step.new.v c.walk_step.result (walked after step_events c.loop-i.v (form.reads text c.loop-i.at))
     (λ x. walked after events_of x.0 (times_at left form text x.1)) c.in_ok-at.at c.walk_step.ensures c.in_ok-at.was)
     ∙ c.loop-i.invariant

@@ -7,8 +7,8 @@ loop-i-init g c = refl
 
 pub loop-i-preserved : goal.loop-i-preserved
 loop-i-preserved g c =
-    numbers-turn g.K.Sink.each c.loop-i.sink c.bytes-in-loop-i.new.self c.number_in-loop-i.new.self (g.S.SettingKind.numbers c.args.setting) c.loop-i.i c.number_at-in-loop-i.result
-    (omega (arith, g.met.S.SettingKind.even c.args.setting, c.width-i-end.ensures, c.loop-i-test.true)) c.number_at-in-loop-i.ensures c.bytes-in-loop-i.ensures c.number_in-loop-i.ensures
+    numbers-turn g.K.Sink.each c.loop-i.sink c.bytes-in-loop-i.new.self c.number-in-loop-i.new.self (g.S.SettingKind.numbers c.args.setting) c.loop-i.i c.number_at-in-loop-i.result
+    (omega (arith, g.met.S.SettingKind.even c.args.setting, c.width-i-end.ensures, c.loop-i-test.true)) c.number_at-in-loop-i.ensures c.bytes-in-loop-i.ensures c.number-in-loop-i.ensures
     ∙ c.loop-i.invariant
 
 pub returns : goal.returns
