@@ -17,7 +17,7 @@ use Rattle.book_chains.specs.Chains.{chain_from}
 use Rattle.book_chains.specs.Paths.{next_of, down_from}
 
 -- what `contains` answers
-pub contains_memb : (xs : List ℕ) (x : ℕ) (r : Bool) → IsAnyAnswer (λ y t. Decides t (y ≡ x)) xs r → r ≡ memb x xs
+pub contains_memb : (xs : List ℕ) (x : ℕ) (r : Bool) → IsAnyAnswer (λ y t. eqb y x ≡ t) xs r → r ≡ memb x xs
 contains_memb xs x r h =
     same_from_decides r (memb x xs) (contains_decides eqb Decides-eqb xs x r h)
     (Decides-by_or (λ y. eqb x y) (λ y. y ≡ x) (memb x) (λ y. Decides-like (eqb x y) sym sym (Decides-eqb x y)) refl (λ _ _. refl) xs)

@@ -31,7 +31,7 @@ pub returns : goal.returns
 returns g c =
     let slot = slot_in g.P.PartKind.bytes g.S.SettingKind.numbers c.args.slots.now in
     let h : Held = (g.P.PartKind.bytes c.args.part, g.S.SettingKind.numbers c.args.setting) in
-    let end : c.loop-step.step ≡ suc c.args.plan.moves = omega (arith, c.loop-step-test.false, c.loop-step.auto.step_end) in
+    let end : c.loop-step.step ≡ suc c.args.plan.moves = omega (arith, c.loop-step-test.false, c.loop-step.auto.step-end) in
     subst
     (λ (n : ℕ). TurnsAll c.args.sizes (g.F.HashFamily.hash c.args.family.now) g.S.SettingKind.blanks (parts g.P.PartKind.bytes c.args.slots.now) (map (placement_at slot c.args.plan h) (up_from 0 n)) c.args.words.now c.loop-step.words)
     end c.loop-step.invariant

@@ -10,10 +10,10 @@ pub slice_bounds-extend_from_slice-end-in-Some : goal.slice_bounds-extend_from_s
 slice_bounds-extend_from_slice-end-in-Some c =
     sym (length-take-le c.in-Some.len c.rewrite.new.room (notice_within c.args.text.now c.args.room.now c.rewrite.new.room c.in-Some.len c.in-Some.ensures))
 
-pub returns-in_ok-extend_from_slice : goal.returns-in_ok-extend_from_slice
-returns-in_ok-extend_from_slice c =
+pub returns-in_ok-extend_from_slice-in-Some : goal.returns-in_ok-extend_from_slice-in-Some
+returns-in_ok-extend_from_slice-in-Some c =
     let out = vec_items c.args.out.now in
-    c.in_ok-extend_from_slice.ensures.items
+    c.in_ok-extend_from_slice-in-Some.ensures.items
     ∙ ap (λ (l : List ℕ). out ++ l) (notice_front c.args.text.now c.args.room.now c.rewrite.new.room c.in-Some.len c.in-Some.ensures)
 
 pub returns-in-None : goal.returns-in-None

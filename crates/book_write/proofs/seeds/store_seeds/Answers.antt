@@ -50,5 +50,5 @@ loop-step-preserved c z slot h sound fit room =
 
 pub returns : goal.returns
 returns c slot h =
-    let end : c.loop-step.step ≡ suc c.args.plan.moves = omega (arith, c.loop-step-test.false, c.loop-step.auto.step_end) in
+    let end : c.loop-step.step ≡ suc c.args.plan.moves = omega (arith, c.loop-step-test.false, c.loop-step.auto.step-end) in
     subst (λ (n : ℕ). SeedsStored c.args.sizes c.args.seeds.now c.args.overflow.now (map (placement_at slot c.args.plan h) (up_from 0 n)) c.loop-step.seeds c.loop-step.overflow) end (c.loop-step.invariant c.args.sizes slot h c.requires.sound c.requires.sure.fit (c.requires.room slot h)).0
