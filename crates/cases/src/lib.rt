@@ -1,4 +1,6 @@
 // The worked examples of the rules, as one result over one list.
+#![tactic(auto)]
+
 ghost use Rattle.std.specs.Prelude.{◌≡◌, length};
 ghost use Rattle.cases.specs.Examples.{Hold, examples};
 

@@ -1,20 +1,20 @@
 -- All steps of an enter keep book and table together.
-use Rattle.std.proofs.Common.{◌≡◌, ℕ, zero, suc, ◌+◌, ◌<◌, Bool, true, false, cond, eqb, ◌⊎◌, List, [], ◌∷◌, ◌++◌, map, length, sym, refl, ap, ◌∙◌, subst, inl, inr, arith}
-use mathlib.Core.Option.{Option, none, some}
-use Rattle.std.proofs.lemmas.Bool.{eq-eqb, ne_eqb, both_ways, or_left, or_right, or_from}
+use Rattle.std.proofs.Common.{◌≡◌, ℕ, ◌<◌, true, false, eqb, ◌⊎◌, List, [], ◌∷◌, ◌++◌, map, sym, refl, ap, ◌∙◌, subst, inl, inr}
+use mathlib.Core.Option.{none, some}
+use Rattle.std.proofs.lemmas.Bool.{eq-eqb, or_left, or_right}
 use Rattle.shared.specs.declared.sizes.Sizes.{Sizes}
-use Rattle.shared.specs.Book.{Held, Slot, Book, part_of, is_empty, empty_slot, slots, seed_for, other, walk, chain, holding, book_after, step_for, written, placed}
+use Rattle.shared.specs.Book.{Held, Slot, Book, part_of, slots, other, holding, book_after, step_for, written, placed}
 use Rattle.shared.specs.Graph.{Joined, without, Forest}
 use Rattle.shared.specs.Kinds.{Hash}
-use Rattle.shared.specs.Lists.{Among, same_list, memb, apart, ◌then◌, ◌or_else◌, at2}
+use Rattle.shared.specs.Lists.{Among, same_list, memb, apart, at2}
 use Rattle.shared.specs.Notice.{Setting, Step}
 use Rattle.shared.specs.Table.{Part, Table, slot_of, h0, h1, edge, choose, applied, applied_all}
 use Rattle.graph_laws.proofs.Walks.{Within}
-use Rattle.chain_laws.specs.Chains.{Chain, ChainFor}
+use Rattle.chain_laws.specs.Chains.{Chain}
 use Rattle.history.specs.Premises.{Family}
 use Rattle.history.specs.Sound.{Mid}
 use Rattle.chain_laws.proofs.Chains.{empty_at, seen_apart, chain_next, other-side, written_as, placed-last, placed-further}
-use Rattle.chain_laws.proofs.Tools.{never, some_same, then_some, or_some, first_from_lem, first_answer-low, among_memb, at2-same, at2-other, at2-cases}
+use Rattle.chain_laws.proofs.Tools.{never, some_same, at2-same, at2-other, at2-cases}
 use Rattle.history.proofs.Writes.{write_keeps}
 
 abbrev pub Holds : (ℕ → ℕ → Slot) → Held → Type 0

@@ -17,7 +17,7 @@ use Rattle.graph_laws.proofs.Forest.{among_map, from-map}
 use Rattle.history.specs.History.{controller, OfBook}
 use Rattle.history.specs.Lives.{Life, book_of, table_of}
 use Rattle.history.specs.Premises.{LawfulKind, ReadsBack}
-use Rattle.history.specs.Progress.{notice_of, takes, TakesNext, CatchesUp, TakesNone}
+use Rattle.history.specs.Progress.{notice_of, takes, TakesNone}
 use Rattle.chain_laws.proofs.Tools.{never, some_same, among_append_right, from-append}
 use Rattle.history.proofs.Calls.{all_number}
 use Rattle.history.proofs.Takes.{Takeable}

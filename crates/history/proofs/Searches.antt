@@ -1,9 +1,9 @@
 -- The searches of an enter find what they should: the least seed, and the places that are joined.
-use Rattle.std.proofs.Common.{◌≡◌, ℕ, zero, suc, ◌+◌, ◌-◌, ◌<◌, ◌≤◌, Bool, true, false, cond, not, ◌&&◌, eqb, ltb, leb, ◌⊎◌, ◌↔◌, List, [], ◌∷◌, map, sym, refl, ap, ◌∙◌, subst, inl, inr, ⊎_elim, not-suc-le-zero, arith}
+use Rattle.std.proofs.Common.{◌≡◌, ℕ, zero, suc, ◌+◌, ◌-◌, ◌<◌, ◌≤◌, Bool, true, false, cond, not, eqb, ltb, leb, ◌⊎◌, ◌↔◌, List, [], ◌∷◌, map, sym, refl, ap, ◌∙◌, subst, inl, inr, ⊎_elim, arith}
 use mathlib.Core.Option.{Option, none, some}
-use Rattle.std.proofs.lemmas.Bool.{and_parts, and_from, not-true, not_from_false, eq-eqb, eqb-true, or_cases, cases_Bool, cases_eq, cases_order, both_ways, lt-ltb, ltb-true, leb-true, le-leb}
+use Rattle.std.proofs.lemmas.Bool.{and_parts, and_from, not-true, not_from_false, eqb-true, or_cases, cases_eq, cases_order, both_ways, lt-ltb, ltb-true, leb-true, le-leb}
 use Rattle.shared.specs.declared.sizes.Sizes.{Sizes}
-use Rattle.shared.specs.Book.{Held, Book, seed_for, places, turned, step_for}
+use Rattle.shared.specs.Book.{seed_for, places, turned}
 use Rattle.shared.specs.Graph.{Joined, joins, ◌⊕◌, bit_of}
 use Rattle.shared.specs.Kinds.{Hash}
 use Rattle.shared.specs.Lists.{Among, memb, apart, first_from, kept, up_from}
@@ -11,8 +11,8 @@ use Rattle.shared.specs.Notice.{Setting}
 use Rattle.shared.specs.Table.{Part, h0, edge, slot_of}
 use Rattle.graph_laws.proofs.Forest.{by_joins, from-map, among_map}
 use Rattle.graph_laws.specs.Graphs.{others_edges}
-use Rattle.history.specs.Searches.{Apart, LeastSeed, SeedLaw, WrongBit, Flips, FlipLaw}
-use Rattle.chain_laws.proofs.Tools.{never, some_same, first_from_lem, first_none, first_exists, among_memb, among_up}
+use Rattle.history.specs.Searches.{Apart, LeastSeed, SeedLaw, WrongBit, FlipLaw}
+use Rattle.chain_laws.proofs.Tools.{never, some_same, first_from_lem, first_none, among_memb, among_up}
 
 -- no number fails before the least that passes
 first_least : (t : ℕ → Bool) (i n s : ℕ) → first_from t i n ≡ some s → (m : ℕ) → i ≤ m → m < s → t m ≡ false

@@ -1,5 +1,5 @@
 -- What the searches of an enter mean: the seed of a step, and the places that a step flips.
-use Rattle.std.specs.Prelude.{◌≡◌, ℕ, ◌+◌, ◌<◌, Bool, not, ◌↔◌, List, [], ◌∷◌, map, ◌==◌, ◌≢◌}
+use Rattle.std.specs.Prelude.{◌≡◌, ℕ, ◌+◌, ◌<◌, Bool, not, ◌↔◌, List, [], ◌∷◌, ◌==◌, ◌≢◌}
 use Rattle.std.proofs.Math.Option.{none, some}
 use Rattle.shared.specs.declared.sizes.Sizes.{Sizes}
 use Rattle.shared.specs.Book.{Held, Book, seed_for, turned, step_for}

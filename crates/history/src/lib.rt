@@ -1,5 +1,7 @@
 // The history law and the laws that lead to it, over the rules' definitions. Each function carries a theorem in its contract and
 // does nothing; the book's and the controller's calls will rest on the same definitions.
+#![tactic(auto)]
+
 ghost use Rattle.chain_laws.specs.Chains.{ChainLaw};
 ghost use Rattle.history.specs.Law.{HistoryLaw};
 ghost use Rattle.history.specs.Ledgers.{HoldingLaw, NoticesLaw};

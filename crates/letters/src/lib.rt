@@ -1,4 +1,6 @@
 // What the program `noticecheck` answers to the letters that it is brought.
+#![tactic(auto)]
+
 ghost use Rattle.std.specs.Prelude.{◌≡◌, ◌+◌, ◌<◌, ◌≤◌, ◌++◌, length, IfOk, OnOk};
 ghost use Rattle.shared.specs.Answers.{optional};
 ghost use Rattle.letters.specs.Counts.{counted, Headed, ReadAs, Answered};

@@ -1,4 +1,6 @@
 // Reads letters from standard input, and prints the notice in each again, or its fault.
+#![tactic(auto)]
+
 use letters::answer_letters;
 use std::io::{Read, Write};
 

@@ -1,5 +1,5 @@
 -- What a pass sees of forms one after the other.
-use Rattle.std.proofs.Common.{◌≡◌, ℕ, suc, List, [], ◌∷◌, ◌++◌, Ok, Err, fold, Result, sym, refl, ap, ◌∙◌}
+use Rattle.std.proofs.Common.{◌≡◌, ℕ, suc, List, ◌∷◌, ◌++◌, Ok, Err, fold, Result, sym, refl, ap, ◌∙◌}
 use Rattle.shared.specs.declared.refusal.Fault.{Fault}
 use Rattle.shared.specs.Forms.{Form, and_then, times_at}
 use Rattle.shared.specs.Notice.{Step}

@@ -3,7 +3,7 @@ use Rattle.std.proofs.Common.{◌≡◌, ℕ, ◌+◌, true, false, List, [], �
 use Rattle.std.proofs.lemmas.List.{append_assoc}
 use Rattle.std.proofs.lemmas.Bool.{cond-true, cond-false}
 use Rattle.shared.specs.declared.refusal.Fault.{Fault}
-use Rattle.shared.specs.Forms.{Form, and_then, lead, pair, series, toks_at}
+use Rattle.shared.specs.Forms.{and_then, lead, pair, series, toks_at}
 use Rattle.shared.specs.Notice.{Kind, BucketParts, as_bucket, as_single, gap, small, line_end, setting_form, bucket_form, slot_form, step_at, step_form}
 use Rattle.shared.specs.Tokens.{Open, Space, mark, token_of, is_word, size}
 use Rattle.shared_text.specs.Events.{Event, begin_bucket, end_bucket, settings_from, step_events}

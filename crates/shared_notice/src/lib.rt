@@ -1,4 +1,6 @@
 // The notice reader: a text is passed over as often as needed, and no step is stored.
+#![tactic(auto)]
+
 pub mod notice;
 pub mod quiet;
 mod reader;

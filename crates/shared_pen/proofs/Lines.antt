@@ -1,7 +1,7 @@
 -- A notice's tokens spell its events' texts.
 use Rattle.std.proofs.Common.{◌≡◌, ℕ, suc, List, [], ◌∷◌, ◌++◌, map, length, codes, sym, refl, ap, ◌∙◌, append_assoc}
 use Rattle.std.proofs.lemmas.List.{append-nil}
-use Rattle.shared.specs.Forms.{Form, lead, times_tokens, series_tokens, ascending_tokens}
+use Rattle.shared.specs.Forms.{lead, times_tokens, series_tokens, ascending_tokens}
 use Rattle.shared.specs.Notice.{Setting, Kind, Step, bucket, single, small, gap, setting_form, step_form, end_form}
 use Rattle.shared.specs.Tokens.{Open, Close, Space, Line, Tok, mark, word, spelled, spell, numeral}
 use Rattle.shared_text.specs.Events.{Event, rowA, rowB, flip, end_bucket, slot_step, settings_from, step_events, events_of}

@@ -1,7 +1,7 @@
 -- What a ruler shows.
-use Rattle.std.proofs.Common.{◌+◌, [], ◌∷◌, ◌++◌, length, fold, sym, ap, ◌∙◌, append_assoc, arith}
+use Rattle.std.proofs.Common.{[], ◌∷◌, ◌++◌, length, fold, sym, ap, ◌∙◌, append_assoc, arith}
 use Rattle.std.proofs.lemmas.List.{append-nil, length-append}
-use Rattle.shared_text.specs.Events.{Event, events_of}
+use Rattle.shared_text.specs.Events.{events_of}
 use Rattle.shared_pen.specs.Pens.{event_text, events_text, head_text, end_text}
 use Rattle.shared_pen.specs.Rules.{measured, ruled_event}
 use Rattle.shared_pen.specs.Laws.{RuleExact, RuleJoined, RuleEvents, RuleNotice}

@@ -1,10 +1,10 @@
 -- What stands in a pen's memory.
-use Rattle.std.proofs.Common.{◌≡◌, ℕ, suc, ◌+◌, ◌-◌, ◌<◌, Bool, true, false, cond, List, [], ◌∷◌, ◌++◌, length, take, drop, set, Some, None, sym, refl, ap, ◌∙◌, subst, ⊎_elim, append_assoc, arith, length-set}
+use Rattle.std.proofs.Common.{◌≡◌, ℕ, suc, ◌+◌, ◌-◌, ◌<◌, Bool, true, false, List, [], ◌∷◌, ◌++◌, length, take, drop, set, Some, None, sym, refl, ap, ◌∙◌, subst, ⊎_elim, append_assoc, arith, length-set}
 use Rattle.std.proofs.lemmas.List.{append-nil, take_all, take_more_set, drop-set-lt, take-append-drop}
 use Rattle.std.proofs.lemmas.Bool.{cond-true, cond-false, cases_lt}
 use Rattle.shared_text.specs.Events.{events_of}
 use Rattle.shared_pen.specs.declared.pen.Pen.{Pen}
-use Rattle.shared_pen.specs.Inks.{poured, inked_byte, inked}
+use Rattle.shared_pen.specs.Inks.{inked_byte, inked}
 use Rattle.shared_pen.specs.Pens.{event_text, events_text, head_text, end_text}
 use Rattle.shared_pen.specs.Laws.{pen_at, InkJoined, InkFits, InkOver, InkFull, InkEvents, InkNotice, Finished, InkFinished}
 use Rattle.shared_pen.proofs.Inks.{poured-append, poured-none, byte_full, byte_over, byte_room}

@@ -1,4 +1,6 @@
 // Notices are written here: event by event, into memory that the caller lends, or only measured.
+#![tactic(auto)]
+
 pub mod pen;
 pub mod ruler;
 pub mod sink;

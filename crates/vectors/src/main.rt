@@ -1,4 +1,6 @@
 // Reads lines that ask for hashes from standard input, and prints each hash.
+#![tactic(auto)]
+
 use std::io::{Read, Write};
 use vector_lines::answer_lines;
 

@@ -1,6 +1,6 @@
 use Rattle.std.proofs.Common.{sym, ap, ◌∙◌}
 use Rattle.std.proofs.lemmas.Result.{err_from_is_err_and}
-use Rattle.shared.specs.Forms.{Form, pair, toks_at}
+use Rattle.shared.specs.Forms.{pair, toks_at}
 use Rattle.shared.specs.Notice.{line_end}
 use Rattle.shared_text.specs.Events.{end_bucket}
 use Rattle.shared_notice.specs.Walks.{kind_of, beside, walked, a_form, b_form, row_events}

@@ -1,5 +1,5 @@
 use Rattle.std.proofs.Common.{◌≡◌, [], ◌∷◌, Ok, sym, ◌∙◌, rules}
-use Rattle.shared.specs.Forms.{Form, lead, pair, toks_at}
+use Rattle.shared.specs.Forms.{lead, pair, toks_at}
 use Rattle.shared.specs.Notice.{gap, small}
 use Rattle.shared.specs.Tokens.{Open, Space, mark}
 use Rattle.shared_notice.specs.Walks.{kind_of}

@@ -1,6 +1,6 @@
 use Rattle.std.proofs.Common.{◌≡◌, ◌+◌, true, false, drop, sym, ap, ◌∙◌, subst, arith}
 use Rattle.std.proofs.lemmas.Result.{err_from_is_err_and}
-use Rattle.shared.specs.Forms.{Form, ascending}
+use Rattle.shared.specs.Forms.{ascending}
 use Rattle.shared.specs.Tokens.{Space, is_mark, token_of}
 use Rattle.shared_notice.specs.Walks.{beside, walked, flips}
 use Rattle.shared_notice.proofs.Rows.{Along, along_more, along_stops, along_ends}

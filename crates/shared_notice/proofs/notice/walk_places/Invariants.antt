@@ -1,5 +1,5 @@
 use Rattle.std.proofs.Common.{◌-◌, ◌≤◌, length}
-use Rattle.shared.specs.Forms.{Form, ascending}
+use Rattle.shared.specs.Forms.{ascending}
 use Rattle.shared_notice.specs.Walks.{walked, flips}
 use Rattle.shared_notice.proofs.Rows.{Along}
 use Rattle.shared_notice.proofs.notice.walk_places.Given as goal

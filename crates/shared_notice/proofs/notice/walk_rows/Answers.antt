@@ -1,5 +1,4 @@
 use Rattle.std.proofs.Common.{sym, ◌∙◌}
-use Rattle.shared.specs.Forms.{Form}
 use Rattle.shared_notice.specs.Walks.{walked, a_form, a_events, b_form, b_events}
 use Rattle.shared_notice.proofs.Seen.{walk-on, walked-pair}
 use Rattle.shared_notice.proofs.notice.walk_rows.Goals as goal

@@ -1,6 +1,6 @@
 use Rattle.std.proofs.Common.{◌+◌, ◌-◌, sym, ◌∙◌, arith}
 use Rattle.std.proofs.lemmas.Result.{err_from_is_err_and}
-use Rattle.shared.specs.Forms.{Form, lead}
+use Rattle.shared.specs.Forms.{lead}
 use Rattle.shared.specs.Notice.{gap, setting_form}
 use Rattle.shared_notice.specs.Walks.{kind_of}
 use Rattle.shared_notice.proofs.Settings.{numbers-ok, numbers-err, series-first, settings-more, settings-stop, settings-done}

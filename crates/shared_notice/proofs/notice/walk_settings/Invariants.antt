@@ -1,5 +1,5 @@
 use Rattle.std.proofs.Common.{◌≡◌, ◌-◌}
-use Rattle.shared.specs.Forms.{Form, lead, times_at}
+use Rattle.shared.specs.Forms.{lead, times_at}
 use Rattle.shared.specs.Notice.{gap, setting_form}
 use Rattle.shared_text.specs.Events.{settings_from}
 use Rattle.shared_notice.specs.Walks.{kind_of, walked}

@@ -1,5 +1,5 @@
 use Rattle.std.proofs.Common.{◌≡◌, ◌+◌, [], ◌∷◌, Ok, codes, sym, ap, ◌∙◌, rules}
-use Rattle.shared.specs.Forms.{Form, toks_at}
+use Rattle.shared.specs.Forms.{toks_at}
 use Rattle.shared.specs.Notice.{bucket_form, slot_form}
 use Rattle.shared.specs.Tokens.{Open, mark, is_word, size}
 use Rattle.shared_notice.specs.Walks.{kind_of, walked, bucket_events, slot_events}

@@ -1,6 +1,6 @@
 use Rattle.std.proofs.Common.{◌+◌, ◌-◌, sym, ◌∙◌, arith}
 use Rattle.std.proofs.lemmas.Result.{err_from_is_err_and}
-use Rattle.shared.specs.Forms.{Form, times_at}
+use Rattle.shared.specs.Forms.{times_at}
 use Rattle.shared.specs.Notice.{step_form}
 use Rattle.shared_text.specs.Events.{step_events, events_of}
 use Rattle.shared_notice.specs.Walks.{kind_of, walked}

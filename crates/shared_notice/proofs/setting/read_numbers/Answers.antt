@@ -1,7 +1,7 @@
 use Rattle.std.proofs.Common.{◌≡◌, ℕ, ◌+◌, ◌-◌, ◌<◌, List, [], ◌∷◌, ◌++◌, length, take, set, sym, ap, ◌∙◌, add-one, arith, length-set, take-suc-set}
 use Rattle.std.proofs.lemmas.List.{append_assoc}
 use Rattle.std.proofs.lemmas.Result.{err_from_is_err_and}
-use Rattle.shared.specs.Forms.{Form, lead}
+use Rattle.shared.specs.Forms.{lead}
 use Rattle.shared.specs.Notice.{small, gap}
 use Rattle.shared_notice.proofs.Walks.{times_more, times-stops}
 use Rattle.shared_notice.proofs.setting.read_numbers.Goals as goal

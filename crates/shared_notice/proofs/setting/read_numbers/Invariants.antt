@@ -1,5 +1,5 @@
 use Rattle.std.proofs.Common.{◌≡◌, ◌-◌, ◌++◌, length, take}
-use Rattle.shared.specs.Forms.{Form, lead, times_at, series}
+use Rattle.shared.specs.Forms.{lead, times_at, series}
 use Rattle.shared.specs.Notice.{small, gap}
 use Rattle.shared_notice.specs.Walks.{mapped}
 use Rattle.shared_notice.proofs.setting.read_numbers.Given as goal
