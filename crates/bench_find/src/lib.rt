@@ -1,4 +1,6 @@
 // A controller's find, to be called from other languages with plain numbers and bytes.
+#![tactic(auto)]
+
 ghost use Rattle.std.specs.Prelude.{◌≡◌, ◌+◌};
 ghost use Rattle.shared.specs.Answers.{number_of};
 ghost use Rattle.shared_table.specs.Memory.{memory, fits};

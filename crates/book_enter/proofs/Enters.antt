@@ -3,7 +3,7 @@ use Rattle.std.proofs.Common.{◌≡◌, ℕ, suc, ◌<◌, ◌≤◌, Bool, tru
 use mathlib.Core.Option.{Option, none, some}
 use Rattle.std.proofs.lemmas.Bool.{lt-ltb, le-ltb}
 use Rattle.shared.specs.declared.sizes.Sizes.{Sizes}
-use Rattle.shared.specs.Book.{Held, Book, Outcome, refused, done, raised, unless, given, told, called, enter, where_is, chain, placed, book_after}
+use Rattle.shared.specs.Book.{Book, Outcome, refused, done, raised, unless, given, told, called, enter, where_is, chain, placed, book_after}
 use Rattle.shared.specs.Graph.{joins}
 use Rattle.shared.specs.Kinds.{Hash}
 use Rattle.shared.specs.Lists.{is_found, ◌then◌}

@@ -1,12 +1,11 @@
 -- The plan of an enter over a book's memory.
-use Rattle.std.proofs.Common.{◌≡◌, ℕ, suc, ◌+◌, ◌*◌, ◌<◌, ◌≤◌, Bool, true, false, cond, List, [], ◌∷◌, map, length, get_or, sym, refl, ap, ◌∙◌, subst, ap₂, arith}
+use Rattle.std.proofs.Common.{◌≡◌, ℕ, suc, ◌+◌, ◌<◌, Bool, true, false, cond, List, [], length, get_or, sym, ◌∙◌, subst, ap₂, arith}
 use Rattle.shared.specs.declared.sizes.Sizes.{Sizes}
-use Rattle.shared.specs.Book.{Held, Slot, Book}
-use Rattle.shared.specs.Graph.{joins}
+use Rattle.shared.specs.Book.{Held, Book}
 use Rattle.shared.specs.Kinds.{Hash}
 use Rattle.shared.specs.Notice.{Setting, Kind}
-use Rattle.shared.specs.Table.{Part, edge}
-use Rattle.chain_laws.specs.Plans.{Placement, turns, steps_over, outcome_of}
+use Rattle.shared.specs.Table.{Part}
+use Rattle.chain_laws.specs.Plans.{turns, outcome_of}
 use Rattle.chain_laws.proofs.Ranges.{length-map_up}
 use Rattle.book_flips.specs.Words.{Words}
 use Rattle.book_flips.proofs.Turns.{length-turns}

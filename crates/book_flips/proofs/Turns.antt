@@ -1,5 +1,5 @@
 -- Turns of a plan, one placement more.
-use Rattle.std.proofs.Common.{◌≡◌, ℕ, suc, ◌+◌, ◌<◌, Bool, true, false, cond, eqb, List, [], ◌∷◌, ◌++◌, length, get_or, sym, refl, ap, ◌∙◌, ap₂, arith}
+use Rattle.std.proofs.Common.{◌≡◌, ℕ, suc, ◌<◌, Bool, true, false, cond, eqb, List, [], ◌∷◌, ◌++◌, length, get_or, sym, refl, ap, ◌∙◌, ap₂}
 use Rattle.shared.specs.declared.sizes.Sizes.{Sizes}
 use Rattle.shared.specs.Book.{turned}
 use Rattle.shared.specs.Graph.{flipped}

@@ -1,5 +1,7 @@
 // Which places each step of an enter turns over, found without touching the rows: a word for each place has its bit as the
 // steps so far leave it, and above that a flag for each step that turns it over.
+#![tactic(auto)]
+
 ghost use Rattle.std.specs.Prelude.{◌≡◌, ℕ, ◌+◌, ◌/◌, ◌%◌, ◌^◌, ◌<◌, cond, length, ◌==◌, slice_index};
 ghost use Rattle.book_flips.specs.Words.{stamped_word, stamped_at};
 

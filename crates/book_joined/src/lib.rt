@@ -1,5 +1,7 @@
 // Which places the edges of the standing parts join. The ends of all edges are hashed once and kept in two slices; then the
 // places joined to one place are marked over these numbers alone, with all edges or with one part's left out.
+#![tactic(auto)]
+
 ghost use Rattle.std.specs.Prelude.{◌≡◌, ℕ, ◌+◌, ◌<◌, length};
 ghost use Rattle.shared.specs.Table.{edge};
 ghost use Rattle.book_joined.specs.Ends.{ends, holds, Ends, Left};

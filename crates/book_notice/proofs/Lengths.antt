@@ -9,7 +9,7 @@ use Rattle.shared.specs.Kinds.{Hash}
 use Rattle.shared.specs.Lists.{up_from, kept, at2}
 use Rattle.shared.specs.Notice.{Setting, Kind, Step, bucket, notice_text}
 use Rattle.shared.specs.Table.{slot_of}
-use Rattle.shared.specs.Tokens.{digits_onto, numeral}
+use Rattle.shared.specs.Tokens.{digits_onto}
 use Rattle.chain_laws.proofs.Ranges.{length-map_up}
 use Rattle.shared_text.specs.Events.{Event, begin_bucket, setting_at, rowA, rowB, flip, end_bucket, slot_step, settings_from, step_events, events_of}
 use Rattle.shared_pen.specs.Pens.{space_before, number_text, behind_spaces, numbers_text, setting_text, event_text, events_text, head_text, end_text}

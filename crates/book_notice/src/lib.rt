@@ -1,4 +1,6 @@
 // The notice of a planned enter: its length, before any byte of it is written, and its text.
+#![tactic(auto)]
+
 ghost use Rattle.std.specs.Prelude.{◌≡◌, ◌+◌, ◌*◌, length};
 ghost use Rattle.shared.specs.Notice.{Kind};
 ghost use Rattle.book_slots.specs.Slots.{slot_in};

@@ -1,4 +1,6 @@
 // The plan of an enter along a chain, worked out with nothing written.
+#![tactic(auto)]
+
 ghost use Rattle.std.specs.Prelude.{◌≡◌, ℕ, ◌*◌, ◌<◌, ◌≤◌, length, slice_index};
 ghost use Rattle.chain_laws.specs.Plans.{planned};
 ghost use Rattle.book_slots.specs.Slots.{slot_in};

@@ -1,4 +1,6 @@
 // The seed of a bucket: the least under which each of its parts has a slot of its own.
+#![tactic(auto)]
+
 ghost use Rattle.std.specs.Prelude.{◌≡◌, ◌+◌, ◌*◌, ◌<◌, ◌≤◌, map, length, slice_index_or, slice_set};
 ghost use Rattle.std.proofs.Math.Option.{some};
 ghost use Rattle.shared.specs.Answers.{optional};

@@ -1,4 +1,6 @@
 // The slots of the workshop's book: the least empty one of a bucket, and where a part stands.
+#![tactic(auto)]
+
 ghost use Rattle.std.specs.Prelude.{◌≡◌, ◌+◌, ◌*◌, ◌<◌, ◌≤◌, length};
 ghost use Rattle.shared.specs.Answers.{optional};
 ghost use Rattle.shared.specs.Book.{empty_slot, where_is};

@@ -1,6 +1,6 @@
 -- With the words of a plan's turns, the steps that are shown are the plan's.
 use Rattle.std.proofs.Common.{◌≡◌, ℕ, zero, suc, ◌+◌, ◌-◌, ◌/◌, ◌%◌, ◌^◌, ◌<◌, ◌≤◌, Bool, true, false, cond, not, eqb, ltb, leb, List, [], ◌∷◌, ◌++◌, map, length, get_or, sym, refl, ap, ◌∙◌, ap₂, arith}
-use Rattle.std.proofs.lemmas.Bool.{cond-true, cond-false, lt-ltb, le-ltb, le-leb, lt-leb}
+use Rattle.std.proofs.lemmas.Bool.{lt-ltb, le-ltb, le-leb, lt-leb}
 use Rattle.shared.specs.declared.sizes.Sizes.{Sizes}
 use Rattle.shared.specs.Book.{Held, Slot, turned, places}
 use Rattle.shared.specs.Graph.{Edge, joins, ◌⊕◌, bit_of, flipped, without}
@@ -8,12 +8,11 @@ use Rattle.shared.specs.Kinds.{Hash}
 use Rattle.shared.specs.Lists.{memb, up_from, kept, same_list}
 use Rattle.shared.specs.Notice.{Setting, Step, bucket}
 use Rattle.shared.specs.Table.{Part, h0, edge}
-use Rattle.chain_laws.specs.Plans.{Placement, step_with, step_over, steps_over, turns}
+use Rattle.chain_laws.specs.Plans.{Placement, step_over, steps_over, turns}
 use Rattle.chain_laws.proofs.Ranges.{up_append, map-up}
 use Rattle.chain_laws.proofs.Tools.{kept-up}
 use Rattle.book_flips.specs.Words.{Words}
 use Rattle.book_flips.proofs.Words.{word_turned}
-use Rattle.book_flips.proofs.Turns.{length-turns}
 use Rattle.book_steps.specs.declared.plan.Plan.{Plan}
 use Rattle.book_steps.specs.Plans.{placement_at, placements_of, flagged, flagged_from, values_at, shown_step, shown_steps}
 

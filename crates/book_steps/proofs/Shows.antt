@@ -1,7 +1,7 @@
 -- What a pass is shown, one piece after the other.
-use Rattle.std.proofs.Common.{◌≡◌, ℕ, zero, suc, ◌+◌, ◌-◌, ◌<◌, ◌≤◌, Bool, true, false, cond, eqb, List, [], ◌∷◌, ◌++◌, map, get_or, drop, fold, sym, refl, ap, ◌∙◌, ap₂, arith}
-use mathlib.Core.Option.{none, some}
-use Rattle.std.proofs.lemmas.Bool.{cond-true, cond-false, eq-eqb, ne_eqb}
+use Rattle.std.proofs.Common.{◌≡◌, ℕ, suc, ◌+◌, ◌-◌, ◌<◌, ◌≤◌, Bool, true, false, cond, eqb, List, [], ◌∷◌, ◌++◌, map, get_or, drop, fold, sym, ap, ◌∙◌, ap₂, arith}
+use mathlib.Core.Option.{some}
+use Rattle.std.proofs.lemmas.Bool.{cond-false, ne_eqb}
 use Rattle.shared.specs.Book.{Held, Slot}
 use Rattle.shared.specs.Lists.{up_from, kept}
 use Rattle.shared.specs.Notice.{Setting, Step, bucket}
@@ -10,7 +10,7 @@ use Rattle.shared_text.specs.Events.{Event, begin_bucket, setting_at, rowA, rowB
 use Rattle.shared_text.proofs.Folds.{folded_append}
 use Rattle.book_steps.specs.declared.plan.Plan.{Plan}
 use Rattle.book_steps.proofs.Fours.{four, four-more, four-end}
-use Rattle.book_steps.specs.Plans.{held_or, held_at, flagged, flagged_from}
+use Rattle.book_steps.specs.Plans.{held_or, held_at, flagged}
 
 -- the part that the next step's slot holds
 pub held_next : (slot : ℕ → ℕ → Slot) (plan : Plan) (h g : Held) (k : ℕ) → (k ≡ plan.moves → ⊥) → slot (get_or plan.buckets (k + 1) 0) (get_or plan.spots (k + 1) 0) ≡ some g → g ≡ held_at slot plan h k

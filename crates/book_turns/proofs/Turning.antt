@@ -1,9 +1,9 @@
 -- A step turns over the places that the rules say.
 use Rattle.std.proofs.Common.{◌≡◌, ℕ, zero, suc, ◌+◌, ◌*◌, ◌%◌, ◌^◌, ◌<◌, ◌≤◌, Bool, true, false, cond, not, eqb, List, [], ◌∷◌, ◌++◌, map, length, get_or, sym, refl, ap, ◌∙◌, ap₂, arith, pow_mono}
-use Rattle.std.proofs.lemmas.Bool.{cond-true, cond-false, eq-eqb, ne_eqb}
+use Rattle.std.proofs.lemmas.Bool.{cond-true, cond-false}
 use Rattle.shared.specs.declared.sizes.Sizes.{Sizes}
 use Rattle.shared.specs.Book.{turned, places}
-use Rattle.shared.specs.Graph.{Edge, joins, ◌⊕◌, bit_of, without}
+use Rattle.shared.specs.Graph.{joins, ◌⊕◌, bit_of, without}
 use Rattle.shared.specs.Kinds.{Hash}
 use Rattle.shared.specs.Lists.{same_list, up_from}
 use Rattle.shared.specs.Notice.{Setting}

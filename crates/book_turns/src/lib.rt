@@ -1,4 +1,6 @@
 // Which places the steps of an enter turn over.
+#![tactic(auto)]
+
 ghost use Rattle.std.specs.Prelude.{◌≡◌, ◌+◌, ◌*◌, ◌%◌, ◌<◌, not, length, ◌==◌, slice_index};
 ghost use Rattle.shared.specs.Graph.{◌⊕◌};
 ghost use Rattle.shared.specs.Table.{edge};

@@ -1,26 +1,25 @@
 -- What an enter leaves, once its plan is written.
-use Rattle.std.proofs.Common.{◌≡◌, ℕ, zero, suc, ◌+◌, ◌-◌, ◌*◌, ◌%◌, ◌<◌, ◌≤◌, Bool, true, false, cond, ◌&&◌, eqb, ltb, List, [], ◌∷◌, ◌++◌, map, length, get_or, take, drop, sym, refl, ap, ◌∙◌, subst, ap₂, inl, inr, arith}
+use Rattle.std.proofs.Common.{◌≡◌, ℕ, zero, suc, ◌+◌, ◌-◌, ◌%◌, ◌<◌, ◌≤◌, Bool, true, false, cond, eqb, ltb, List, [], ◌∷◌, ◌++◌, length, get_or, take, drop, sym, refl, ap, ◌∙◌, ap₂, inl, inr, arith}
 use mathlib.Core.Path.{fun_ext}
-use Rattle.std.proofs.lemmas.Bool.{cases_lt, cases_eq, lt-ltb, le-ltb, ne_eqb, cond-true, cond-false, and_right, or_from}
+use Rattle.std.proofs.lemmas.Bool.{cases_lt, lt-ltb, le-ltb, ne_eqb, cond-true, cond-false, and_right, or_from}
 use Rattle.std.proofs.lemmas.List.{length-take, length-drop, get_or-take, get_or-drop}
 use Rattle.shared.specs.declared.sizes.Sizes.{Sizes}
 use Rattle.shared.specs.Answers.{Answer, accepted, refused_with}
-use Rattle.shared.specs.Book.{Held, Slot, Book, Outcome, refused, done, raised, Call, called, left}
+use Rattle.shared.specs.Book.{Slot, Book, Outcome, refused, done, raised, Call, called, left}
 use Rattle.shared.specs.Graph.{◌⊕◌, flipped}
 use Rattle.shared.specs.Kinds.{Hash}
-use Rattle.shared.specs.Lists.{memb, up_from, kept}
+use Rattle.shared.specs.Lists.{memb, up_from}
 use Rattle.shared.specs.Notice.{Setting, Kind, Step, notice_text}
 use Rattle.shared.specs.Table.{Part}
 use Rattle.shared_bits.specs.Bits.{lit}
 use Rattle.shared_table.specs.Memory.{row_of}
-use Rattle.chain_laws.specs.Plans.{Placement, turns, played, outcome_of, slots_after, seeds_after, row_after}
+use Rattle.chain_laws.specs.Plans.{Placement, turns, played, slots_after, seeds_after, row_after}
 use Rattle.chain_laws.proofs.Plans.{plays}
 use Rattle.chain_laws.proofs.Tools.{memb-kept}
-use Rattle.book_flips.specs.Words.{word_of, Words}
+use Rattle.book_flips.specs.Words.{Words}
 use Rattle.book_flips.proofs.Words.{word_bit}
 use Rattle.book_steps.proofs.Shown.{Ranged}
 use Rattle.book_notice.specs.Lengths.{notice_bytes}
-use Rattle.book_enter.specs.Enters.{parts_of}
 use Rattle.book_write.specs.Writes.{RowStored, asked, CallLeft}
 
 -- turns within a range leave what is past it

@@ -1,5 +1,5 @@
 -- Seeds written one after the other.
-use Rattle.std.proofs.Common.{◌≡◌, ℕ, ◌+◌, ◌<◌, ◌≤◌, Bool, false, cond, ltb, List, [], ◌∷◌, ◌++◌, map, length, sym, refl, ap, ◌∙◌, subst}
+use Rattle.std.proofs.Common.{◌≡◌, ℕ, ◌+◌, ◌<◌, ◌≤◌, false, cond, ltb, List, [], ◌∷◌, ◌++◌, map, length, sym, refl, ap, ◌∙◌}
 use Rattle.shared.specs.declared.sizes.Sizes.{Sizes}
 use Rattle.shared.specs.Lists.{at, up_from}
 use Rattle.shared.specs.Table.{too_many}
@@ -8,7 +8,7 @@ use Rattle.shared_overflow.specs.declared.Entry.{Entry}
 use Rattle.shared_overflow.specs.Overflow.{used_in}
 use Rattle.shared_table.specs.Memory.{seed_of, Sound, SeedSet}
 use Rattle.shared_table.proofs.SeedWrites.{sound_after, room-left}
-use Rattle.chain_laws.specs.Plans.{Placement, seeds_after}
+use Rattle.chain_laws.specs.Plans.{Placement}
 use Rattle.chain_laws.proofs.Ranges.{map_last}
 use Rattle.book_enter.proofs.Spills.{upto, upto-more}
 use Rattle.book_write.specs.Writes.{fields_after, SeedsStored}

@@ -65,7 +65,7 @@ mod tests {
     #[test]
     fn tags_are_six_bytes(rt: HostRuntime) -> Result<(), Fail> {
         let tag = Tag::new(0x0102_0304_0506)?;
-        assert_eq!(rt; tag.as_bytes(), &[1, 2, 3, 4, 5, 6]);
+        assert_eq!(rt; tag.as_bytes(), [1, 2, 3, 4, 5, 6].as_slice());
         assert_eq!(rt; refused(Tag::new(0xffff_ffff_ffff)), 0);
         assert_eq!(rt; refused(Tag::new(0x1_0000_0000_0000)), 3);
         Ok(())
@@ -73,7 +73,7 @@ mod tests {
 
     #[test]
     fn part_numbers_are_named(rt: HostRuntime) -> Result<(), Fail> {
-        assert_eq!(rt; PartNumber::new(b"AZ-09")?.as_bytes(), b"AZ-09");
+        assert_eq!(rt; PartNumber::new(b"AZ-09")?.as_bytes(), b"AZ-09".as_slice());
         assert_eq!(rt; refused(PartNumber::new(b"ABCDEFGHIJKLMNOP")), 0);
         assert_eq!(rt; refused(PartNumber::new(b"")), 3);
         assert_eq!(rt; refused(PartNumber::new(b"ABCDEFGHIJKLMNOPQ")), 3);

@@ -1,8 +1,8 @@
 -- What every notice that is read is like: at most five steps, four settings in a bucket step, no place twice in a row, and
 -- every setting lawful and of its kind's length.
-use Rattle.std.proofs.Common.{◌≡◌, ℕ, zero, suc, ◌+◌, ◌-◌, ◌<◌, ◌≤◌, Bool, true, false, not, ◌&&◌, ◌||◌, eqb, List, [], ◌∷◌, length, Ok, sym, refl, ap, ◌∙◌, arith}
+use Rattle.std.proofs.Common.{◌≡◌, ℕ, zero, suc, ◌+◌, ◌-◌, ◌<◌, ◌≤◌, true, false, not, ◌&&◌, eqb, List, [], ◌∷◌, length, Ok, refl, ap, arith}
 use Rattle.std.proofs.lemmas.Bool.{and_parts, and_from, or_from, ne_eqb, eq-eqb, false≢true}
-use Rattle.shared.specs.Forms.{Form, times_fits, series_fits, ascends, pair, lead, series, ascending}
+use Rattle.shared.specs.Forms.{Form, times_fits, series_fits, ascends}
 use Rattle.shared.specs.Limits.{between}
 use Rattle.shared.specs.Lists.{memb, apart}
 use Rattle.shared.specs.Notice.{Setting, Kind, Step, bucket, single, small, setting_form, step_fits, step_form, read_notice}

@@ -1,5 +1,5 @@
 -- The digest after a notice's steps.
-use Rattle.std.proofs.Common.{◌≡◌, ℕ, suc, ◌+◌, ◌*◌, ◌<◌, ◌≤◌, Bool, true, false, cond, ◌&&◌, eqb, ltb, List, [], ◌∷◌, ◌++◌, map, length, take, set, Ok, Err, fold, Result, sym, refl, ap, ◌∙◌, subst, ap₂, append_assoc, arith, length-append, length-set}
+use Rattle.std.proofs.Common.{◌≡◌, ℕ, suc, ◌+◌, ◌*◌, ◌<◌, ◌≤◌, Bool, true, false, cond, ◌&&◌, eqb, ltb, List, [], ◌∷◌, ◌++◌, map, length, take, fold, sym, refl, ap, ◌∙◌, subst, ap₂, append_assoc, arith, length-append, length-set}
 use Rattle.std.proofs.lemmas.List.{take_more_set, append-nil}
 use Rattle.std.proofs.lemmas.Bool.{cond-true, lt-ltb, and_parts, eqb-true}
 use Rattle.shared.specs.declared.sizes.Sizes.{Sizes}

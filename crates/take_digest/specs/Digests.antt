@@ -1,5 +1,5 @@
 -- What a digest is after each piece of a notice.
-use Rattle.std.specs.Prelude.{ℕ, ◌+◌, Bool, true, false, cond, ◌&&◌, List, [], ◌∷◌, nat_lt, slice_index, slice_set}
+use Rattle.std.specs.Prelude.{ℕ, ◌+◌, Bool, true, false, cond, ◌&&◌, nat_lt, slice_index, slice_set}
 use Rattle.shared.specs.Notice.{Setting}
 use Rattle.shared_text.specs.Events.{Event, begin_bucket, setting_at, rowA, rowB, flip, end_bucket, slot_step}
 use Rattle.take_digest.specs.declared.digest.Digest.{Digest}

@@ -1,4 +1,6 @@
 // The flipped places of a notice, turned over in both rows in a pass over its text.
+#![tactic(auto)]
+
 ghost use Rattle.std.specs.Prelude.{◌≡◌, ℕ, List, Ok};
 ghost use Rattle.shared.specs.Notice.{Step, read_notice};
 ghost use Rattle.shared_bits.specs.Bits.{flip_at};

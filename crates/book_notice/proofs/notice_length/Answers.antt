@@ -1,4 +1,4 @@
-use Rattle.std.proofs.Common.{◌≡◌, ◌+◌, List, length, sym, ap, ◌∙◌, arith}
+use Rattle.std.proofs.Common.{◌+◌, length, ap, ◌∙◌, arith}
 use Rattle.shared.specs.Book.{Held as HeldPart}
 use Rattle.book_slots.specs.Slots.{slot_in}
 use Rattle.book_steps.specs.Plans.{shown_steps}

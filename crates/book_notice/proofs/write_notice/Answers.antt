@@ -1,4 +1,4 @@
-use Rattle.std.proofs.Common.{◌≡◌, ℕ, ◌+◌, List, fold, sym, ap, ◌∙◌, subst, rules}
+use Rattle.std.proofs.Common.{◌≡◌, ℕ, List, fold, sym, ap, ◌∙◌, subst, rules}
 use Rattle.shared.specs.Book.{Held as HeldPart}
 use Rattle.shared.specs.Notice.{notice_text}
 use Rattle.shared_text.specs.Events.{events_of}

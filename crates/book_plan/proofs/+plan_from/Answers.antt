@@ -1,4 +1,4 @@
-use Rattle.std.proofs.Common.{◌≡◌, ℕ, suc, ◌+◌, ◌-◌, ◌<◌, List, [], ◌∷◌, length, get_or, sym, refl, ap, ◌∙◌, subst, arith}
+use Rattle.std.proofs.Common.{◌≡◌, ℕ, ◌+◌, ◌-◌, ◌<◌, [], ◌∷◌, get_or, sym, refl, ap, ◌∙◌, subst, arith}
 use mathlib.Core.Option.{none, some}
 use Rattle.shared.specs.Book.{Held as HeldPart, other}
 use Rattle.chain_laws.specs.Plans.{planned}
@@ -9,7 +9,7 @@ use Rattle.book_chains.specs.Paths.{down_from}
 use Rattle.book_chains.proofs.Ways.{other-is}
 use Rattle.book_steps.specs.declared.plan.Plan.{Plan}
 use Rattle.book_steps.specs.Plans.{placements_of}
-use Rattle.book_plan.specs.Makes.{put_in, plan_of, Made, MadeIf}
+use Rattle.book_plan.specs.Makes.{plan_of, Made, MadeIf}
 use Rattle.book_plan.proofs.Moves.{end_full, end_at, move_none, move_dead, move_at}
 use Rattle.book_plan.proofs.Puts.{placements_one, placements_more, made_one, made_more}
 use Rattle.book_plan.proofs.+plan_from.Goals as goal

@@ -1,4 +1,4 @@
-use Rattle.std.proofs.Common.{◌≡◌, ℕ, suc, ◌+◌, map, ap, subst, arith}
+use Rattle.std.proofs.Common.{◌≡◌, ℕ, suc, map, ap, subst, arith}
 use Rattle.shared.specs.Book.{Held}
 use Rattle.shared.specs.Lists.{up_from}
 use Rattle.book_slots.specs.Slots.{parts, slot_in}

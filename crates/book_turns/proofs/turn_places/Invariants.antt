@@ -1,4 +1,4 @@
-use Rattle.std.proofs.Common.{ℕ, ◌+◌, Bool, [], map}
+use Rattle.std.proofs.Common.{map}
 use Rattle.shared.specs.Lists.{up_from}
 use Rattle.book_slots.specs.Slots.{parts, slot_in}
 use Rattle.book_steps.specs.Plans.{placement_at}

@@ -1,4 +1,4 @@
-use Rattle.std.proofs.Common.{◌≡◌, ℕ, ◌+◌, ◌<◌, length, sym, ap, ◌∙◌, arith}
+use Rattle.std.proofs.Common.{length, sym, ap, ◌∙◌, arith}
 use lib.ListN.{length-map}
 use Rattle.shared.specs.Table.{edge}
 use Rattle.book_slots.specs.Slots.{parts}

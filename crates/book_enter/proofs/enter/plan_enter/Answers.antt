@@ -1,18 +1,16 @@
-use Rattle.std.proofs.Common.{◌≡◌, ℕ, ◌+◌, ◌<◌, ◌≤◌, true, false, List, map, length, Ok, Err, Result, sym, refl, ap, ◌∙◌, subst, arith}
-use Rattle.shared.specs.Answers.{number_of}
-use Rattle.shared.specs.Book.{Held, where_is}
+use Rattle.std.proofs.Common.{◌≡◌, ℕ, ◌+◌, ◌<◌, ◌≤◌, false, List, map, length, sym, refl, ap, ◌∙◌, subst, arith}
+use Rattle.shared.specs.Book.{where_is}
 use Rattle.shared.specs.Graph.{joins}
 use Rattle.shared.specs.Lists.{is_found}
 use Rattle.shared.specs.Table.{Part, edge}
 use Rattle.shared_table.specs.Memory.{row_of}
 use Rattle.shared_notice.specs.Walks.{kind_of}
-use Rattle.chain_laws.specs.Plans.{Placement}
-use Rattle.book_slots.specs.Slots.{slot_in, parts}
+use Rattle.book_slots.specs.Slots.{parts}
 use Rattle.book_slots.proofs.Slots.{standing-parts}
 use Rattle.book_steps.specs.Plans.{placements_of}
 use Rattle.book_enter.specs.Views.{book_of}
 use Rattle.book_enter.specs.Enters.{parts_of}
-use Rattle.book_enter.proofs.Enters.{by_plan, enter_stands, enter_joined, enter_planned, by_overflow, by_room, by_steps}
+use Rattle.book_enter.proofs.Enters.{by_plan, enter_joined, enter_planned, by_overflow, by_room, by_steps}
 use Rattle.book_enter.proofs.Memories.{loaded_words, loaded_bits, turned-words, length-outcome}
 use Rattle.book_enter.proofs.enter.plan_enter.Goals as goal
 

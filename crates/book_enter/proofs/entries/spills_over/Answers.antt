@@ -1,4 +1,4 @@
-use Rattle.std.proofs.Common.{◌≡◌, ℕ, suc, ◌+◌, [], sym, refl, ◌∙◌, arith}
+use Rattle.std.proofs.Common.{ℕ, suc, [], sym, refl, ◌∙◌, arith}
 use mathlib.Core.Option.{none}
 use Rattle.shared.specs.Book.{Held, Slot}
 use Rattle.shared_table.specs.Memory.{seed_of}

@@ -1,4 +1,4 @@
-use Rattle.std.proofs.Common.{◌≡◌, ℕ, Bool, true, false, cond, get_or, set, sym, ap, ◌∙◌, arith, get_or-set_other, get_or-set_same, below_more}
+use Rattle.std.proofs.Common.{◌≡◌, Bool, cond, get_or, set, sym, ap, ◌∙◌, arith, get_or-set_other, get_or-set_same, below_more}
 use Rattle.shared_table.specs.Memory.{row_of}
 use Rattle.book_enter.proofs.rows.load_rows.Goals as goal
 use Rattle.book_enter.proofs.rows.load_rows.Goals.{then-bit_at, else-bit_at}

@@ -1,9 +1,9 @@
-use Rattle.std.proofs.Common.{◌≡◌, sym, refl, ap, ◌∙◌, arith}
+use Rattle.std.proofs.Common.{sym, refl, ◌∙◌}
 use mathlib.Core.Option.{some}
 use Rattle.shared.specs.Book.{Held}
 use Rattle.shared.specs.Lists.{at2}
 use Rattle.book_slots.specs.Slots.{slot_in}
-use Rattle.book_steps.proofs.Fours.{from, scan_empty, scan_other, scan_here, scan_end}
+use Rattle.book_steps.proofs.Fours.{scan_empty, scan_other, scan_here, scan_end}
 use Rattle.book_steps.proofs.bucket.setting_under.Goals as goal
 use Rattle.book_steps.proofs.bucket.setting_under.Goals.{in-Held+else-slot_under-place, in_default}
 

@@ -1,4 +1,4 @@
-use Rattle.std.proofs.Common.{◌≡◌, ◌+◌, fold, sym, ap, ◌∙◌}
+use Rattle.std.proofs.Common.{◌+◌, fold, sym, ap, ◌∙◌}
 use Rattle.book_steps.proofs.Shows.{rest, row-flip, row-pass, row-end}
 use Rattle.book_steps.proofs.show.show_row.Goals as goal
 use Rattle.book_steps.proofs.show.show_row.Goals.{then-turned_by, else-turned_by}

@@ -1,4 +1,4 @@
-use Rattle.std.proofs.Common.{◌≡◌, ◌+◌, fold, sym, ap, ◌∙◌}
+use Rattle.std.proofs.Common.{◌+◌, fold, sym, ap, ◌∙◌}
 use Rattle.shared.specs.Book.{value_at}
 use Rattle.chain_laws.specs.Plans.{filled}
 use Rattle.book_slots.specs.Slots.{slot_in}

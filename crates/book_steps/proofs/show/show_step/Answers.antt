@@ -1,4 +1,4 @@
-use Rattle.std.proofs.Common.{◌≡◌, ℕ, ◌-◌, [], ◌∷◌, map, length, get_or, refl, ap, arith}
+use Rattle.std.proofs.Common.{◌≡◌, ◌-◌, [], ◌∷◌, map, length, get_or, ap, arith}
 use Rattle.shared.specs.Book.{Held, value_at}
 use Rattle.chain_laws.specs.Plans.{filled}
 use Rattle.book_slots.specs.Slots.{slot_in}

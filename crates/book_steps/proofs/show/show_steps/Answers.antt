@@ -1,4 +1,4 @@
-use Rattle.std.proofs.Common.{◌≡◌, suc, ◌+◌, fold, sym, ap, ◌∙◌, arith}
+use Rattle.std.proofs.Common.{suc, ◌+◌, fold, sym, ap, ◌∙◌, arith}
 use Rattle.book_slots.specs.Slots.{slot_in}
 use Rattle.book_steps.specs.Plans.{shown_step}
 use Rattle.book_steps.proofs.Shows.{steps, steps-more, steps-end, steps_all}

@@ -1,11 +1,10 @@
-use Rattle.std.proofs.Common.{◌≡◌, ℕ, suc, ◌+◌, ◌<◌, ◌≤◌, List, [], ◌∷◌, ◌++◌, length, drop, sym, refl, ap, ◌∙◌, subst, ap₂, arith}
-use Rattle.shared.specs.Answers.{Answer, accepted, number_of}
+use Rattle.std.proofs.Common.{◌≡◌, ℕ, suc, ◌+◌, ◌<◌, ◌≤◌, List, [], ◌∷◌, ◌++◌, length, drop, sym, refl, ap, ◌∙◌, subst, arith}
+use Rattle.shared.specs.Answers.{accepted, number_of}
 use Rattle.shared.specs.Book.{Held, Book, enter}
 use Rattle.shared.specs.Notice.{Kind, Step}
 use Rattle.shared_notice.specs.Walks.{kind_of}
 use Rattle.chain_laws.specs.Plans.{turns, played}
 use Rattle.chain_laws.proofs.Plans.{plays}
-use Rattle.book_slots.specs.Slots.{slot_in}
 use Rattle.book_steps.specs.Plans.{placements_of, shown_steps}
 use Rattle.book_steps.proofs.Shown.{turns-ranged}
 use Rattle.book_notice.specs.Lengths.{notice_length, notice_bytes}

@@ -1,4 +1,4 @@
-use Rattle.std.proofs.Common.{◌≡◌, ℕ, ◌%◌, Bool, cond, not, eqb, ltb, List, length, get_or, sym, ap, ◌∙◌, arith}
+use Rattle.std.proofs.Common.{ℕ, ◌%◌, Bool, cond, not, eqb, ltb, List, get_or, sym, ap, ◌∙◌, arith}
 use mathlib.Core.Bool.{beq}
 use Rattle.shared_bits.specs.Bits.{lit}
 use Rattle.book_write.proofs.RowStores.{stored_turned, stored_kept}

@@ -1,4 +1,4 @@
-use Rattle.std.proofs.Common.{◌≡◌, ℕ, suc, ◌+◌, [], map, sym, ◌∙◌, subst, arith}
+use Rattle.std.proofs.Common.{◌≡◌, ℕ, suc, [], map, ◌∙◌, subst, arith}
 use mathlib.Core.Option.{none}
 use Rattle.shared.specs.Book.{Held, Slot}
 use Rattle.shared.specs.Lists.{up_from}

@@ -1,11 +1,11 @@
-use Rattle.std.proofs.Common.{◌≡◌, ℕ, suc, ◌+◌, ◌*◌, ◌<◌, map, get_or, sym, ap, ◌∙◌, subst, ap₂, arith}
+use Rattle.std.proofs.Common.{◌≡◌, ℕ, suc, map, get_or, sym, ap, ◌∙◌, ap₂, arith}
 use mathlib.Core.Option.{some}
 use Rattle.shared.specs.Book.{Held, Slot}
 use Rattle.shared.specs.Lists.{up_from, at2}
 use Rattle.chain_laws.specs.Plans.{slots_after}
 use Rattle.book_slots.specs.Slots.{slot_in}
 use Rattle.book_steps.specs.Plans.{held_at, placement_at}
-use Rattle.book_write.proofs.SlotWrites.{upto, upto-more, held_kept}
+use Rattle.book_write.proofs.SlotWrites.{upto-more, held_kept}
 use Rattle.book_write.proofs.slots.store_slots.Goals as goal
 
 pub write_slot-requires : goal.write_slot-requires

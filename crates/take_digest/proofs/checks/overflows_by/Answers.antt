@@ -1,8 +1,7 @@
 -- The entries are counted step by step.
-use Rattle.std.proofs.Common.{◌+◌, List, get_or, drop, sym, refl, ◌∙◌, arith}
+use Rattle.std.proofs.Common.{◌+◌, get_or, drop, sym, refl, ◌∙◌, arith}
 use Rattle.std.proofs.lemmas.List.{at_drop_all}
 use Rattle.shared_table.specs.Memory.{seed_of}
-use Rattle.take_digest.specs.declared.digest.Head.{Head}
 use Rattle.take_digest.specs.Digests.{slot_head}
 use Rattle.take_digest.specs.Heads.{overflows_by}
 use Rattle.take_digest.proofs.Counts.{used_few, counted-at, head_low, old-counted, next-counted, stop-counted}
