@@ -3,7 +3,7 @@ use Rattle.std.proofs.Common.{◌≡◌, ℕ, zero, suc, ◌+◌, ◌<◌, ◌�
 use mathlib.Core.Option.{Option, none, some}
 use Rattle.std.proofs.lemmas.List.{append_assoc, append-nil, length-append, take_at, drop_all, drop-drop}
 use Rattle.std.proofs.lemmas.Bool.{cond-true, cond-false, lt-leb, lt-ltb, le-ltb}
-use Rattle.line_forms.specs.Fronts.{first_of}
+use Rattle.line_forms.specs.Fronts.{first_index}
 use Rattle.shared.specs.declared.refusal.Fault.{Fault}
 use Rattle.shared.specs.Notice.{read_notice}
 use Rattle.shared_pen.specs.Laws.{Finished}
@@ -42,7 +42,7 @@ module _ (line rest before after : List ℕ) where
       (record { printed = p; behind = drop_all (length rest) rest (omega arith); within = omega arith; some = omega arith }))
 
 -- a form
-module _ (input before after : List ℕ) (at : ℕ) (line-end : at ≡ first_of 10 input) where
+module _ (input before after : List ℕ) (at : ℕ) (line-end : at ≡ first_index 10 input) where
   abbrev FormAnswered : List ℕ × List ℕ → ℕ → Type 0
   FormAnswered form used = Answered 1 form input before after used
 

@@ -1,7 +1,7 @@
 -- What the program `noticecheck` prints: for each letter the notice that it holds, or its fault.
 use Rattle.std.specs.Prelude.{ℕ, zero, suc, ◌+◌, cond, List, [], ◌∷◌, ◌++◌, length, take, drop, Ok, Err, codes, Result, nat_le, nat_lt}
 use Rattle.std.proofs.Math.Option.{Option, none, some}
-use Rattle.line_forms.specs.Fronts.{inside_of, first_of}
+use Rattle.line_forms.specs.Fronts.{inside_of, first_index}
 use Rattle.shared.specs.declared.refusal.Cause.{Cause}
 use Rattle.shared.specs.declared.refusal.Cause.TheVariants.{Byte, Word, Setting}
 use Rattle.shared.specs.declared.refusal.Fault.{Fault}
@@ -47,7 +47,7 @@ letter_of (some len) rest = cond (nat_le len (length rest)) (letter_text (take l
 
 abbrev pub form_of : List ℕ → List ℕ × List ℕ
 form_of input =
-    let i = first_of 10 input in
+    let i = first_index 10 input in
     cond (nat_lt i (length input)) (letter_of (letter_length (take i input)) (drop (i + 1) input)) (bad_line, [])
 
 -- what is printed of an input; each form uses up a byte at least, so `fuel` is its length

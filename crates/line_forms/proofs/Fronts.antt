@@ -4,7 +4,7 @@ use mathlib.Core.Option.{Option, none, some}
 use Rattle.std.proofs.lemmas.List.{at_drop_more}
 use Rattle.std.proofs.lemmas.Bool.{cond-true, cond-false, eq-eqb, eqb-true, cases_Bool}
 use Rattle.shared.specs.Lists.{◌then◌}
-use Rattle.line_forms.specs.Fronts.{behind, closed, inside_of, first_of}
+use Rattle.line_forms.specs.Fronts.{behind, closed, inside_of, first_index}
 
 behind-is : (front rest : List ℕ) → behind front (front ++ rest) ≡ some rest
 behind-is [] rest = refl
@@ -60,9 +60,9 @@ closed-by front line rest None e never = inside_behind front line rest e ∙ clo
 closed-by front line rest (Some x) e h = inside_behind front line rest e ∙ ap closed h ∙ closed_is x.now
 
 -- the walk to the byte
-module _ (c : ℕ) (text : List ℕ) (i : ℕ) (so_far : first_of c text ≡ i + first_of c (drop i text)) where
-  pub walk_more : i < length text → eqb (get_or text i 0) c ≡ false → first_of c text ≡ i + 1 + first_of c (drop (i + 1) text)
-  walk_more h t = let e = at_drop_more (first_of c) text i 0 h ∙ cond-false (eqb (get_or text i 0) c) 0 (suc (first_of c (drop (i + 1) text))) t in omega arith
+module _ (c : ℕ) (text : List ℕ) (i : ℕ) (so_far : first_index c text ≡ i + first_index c (drop i text)) where
+  pub walk_more : i < length text → eqb (get_or text i 0) c ≡ false → first_index c text ≡ i + 1 + first_index c (drop (i + 1) text)
+  walk_more h t = let e = at_drop_more (first_index c) text i 0 h ∙ cond-false (eqb (get_or text i 0) c) 0 (suc (first_index c (drop (i + 1) text))) t in omega arith
 
-  pub walk_here : i < length text → eqb (get_or text i 0) c ≡ true → i ≡ first_of c text
-  walk_here h t = let e = at_drop_more (first_of c) text i 0 h ∙ cond-true (eqb (get_or text i 0) c) 0 (suc (first_of c (drop (i + 1) text))) t in omega arith
+  pub walk_here : i < length text → eqb (get_or text i 0) c ≡ true → i ≡ first_index c text
+  walk_here h t = let e = at_drop_more (first_index c) text i 0 h ∙ cond-true (eqb (get_or text i 0) c) 0 (suc (first_index c (drop (i + 1) text))) t in omega arith

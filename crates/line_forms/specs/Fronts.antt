@@ -19,6 +19,6 @@ abbrev pub inside_of : List ℕ → List ℕ → Option (List ℕ)
 inside_of front line = behind front line then closed
 
 -- where the byte c first stands, or the length
-abbrev pub first_of : ℕ → List ℕ → ℕ
-first_of c [] = 0
-first_of c (b ∷ bs) = cond (b == c) 0 (suc (first_of c bs))
+abbrev pub first_index : ℕ → List ℕ → ℕ
+first_index c [] = 0
+first_index c (b ∷ bs) = cond (b == c) 0 (suc (first_index c bs))

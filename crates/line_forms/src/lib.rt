@@ -3,7 +3,7 @@
 
 ghost use Rattle.std.specs.Prelude.{◌≡◌, [], ◌∷◌, ◌++◌, MatchOption, OnOk};
 ghost use Rattle.std.proofs.Math.Option.{none, some};
-ghost use Rattle.line_forms.specs.Fronts.{inside_of, first_of};
+ghost use Rattle.line_forms.specs.Fronts.{inside_of, first_index};
 
 use std::alloc::AllocError;
 
@@ -16,7 +16,7 @@ pub fn inside<'a>(line: &'a [u8], front: &[u8]) -> Option<&'a [u8]>
 
 // Where the byte first stands, or the length.
 pub fn first_of(text: &[u8], byte: u8) -> usize
-    ensures { result ≡ first_of byte text.now }
+    ensures { result ≡ first_index byte text.now }
 {
     for (i, each) in text.iter().enumerate() {
         if *each == byte {

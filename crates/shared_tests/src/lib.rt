@@ -1,4 +1,6 @@
 // Examples on the calls of the shared crates. They stand in a crate of their own, since a crate with tests is proved twice.
+#![tactic(auto)]
+
 #[cfg(test)]
 mod tests {
     use shared::kinds::{HashFamily, PartKind, SettingKind};

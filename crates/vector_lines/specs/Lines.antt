@@ -1,7 +1,7 @@
 -- What each line of the program `vectors` asks for, and what is printed.
 use Rattle.std.specs.Prelude.{ℕ, ◌+◌, ◌/◌, ◌%◌, ◌^◌, cond, List, [], ◌∷◌, ◌++◌, take, drop, codes, ◌==◌, nat_lt}
 use Rattle.std.proofs.Math.Option.{Option, none, some}
-use Rattle.line_forms.specs.Fronts.{inside_of, first_of}
+use Rattle.line_forms.specs.Fronts.{inside_of, first_index}
 use Rattle.shared.specs.Kinds.{Hash}
 use Rattle.shared.specs.Lists.{◌then◌}
 use Rattle.shared.specs.Tokens.{number_in}
@@ -15,8 +15,8 @@ part_hash hash part s = cond (is_part_number part) (some (hash s part)) none
 -- a seed of 0 to 319, a space, and a part number
 abbrev pub family_hash : Hash → List ℕ → Option ℕ
 family_hash hash text =
-    let seed = take (first_of 32 text) text in
-    let part = drop (first_of 32 text + 1) text in
+    let seed = take (first_index 32 text) text in
+    let part = drop (first_index 32 text + 1) text in
     number_in 0 319 seed then part_hash hash part
 
 -- the hash that a line asks for
