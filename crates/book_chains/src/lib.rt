@@ -1,7 +1,7 @@
 // The chain of an enter, a cuckoo path: which parts move to their other bucket so that the part finds an empty slot.
 #![tactic(auto)]
 
-ghost use Rattle.std.specs.Prelude.{◌≡◌, ℕ, ◌+◌, ◌*◌, ◌<◌, ◌≤◌, length, drop, slice_index};
+ghost use Rattle.std.specs.Prelude.{◌≡◌, ◌+◌, ◌*◌, ◌<◌, ◌≤◌, length, drop, slice_index};
 ghost use Rattle.shared.specs.Answers.{optional};
 ghost use Rattle.shared.specs.Book.{walk, chain};
 ghost use Rattle.book_slots.specs.Slots.{slot_in};

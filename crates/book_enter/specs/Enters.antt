@@ -79,17 +79,17 @@ Turned z hash blank b room h words (Err e) = values_of e ≡ []
 
 -- a book's memory as it is lent: of the sizes' lengths, and its overflow entries match its seeds
 pub record Kept {P S : Type 0} (z : Sizes) (slots : List (CodeSlot P S)) (rowa rowb seeds : List ℕ) (over : List Entry) : Type 0 where
-  pub long-slots : length slots ≡ 4 * z.buckets
-  pub long-rowa : length rowa ≡ (z.a + 7) / 8
-  pub long-rowb : length rowb ≡ (z.b + 7) / 8
-  pub long-seeds : length seeds ≡ (5 * z.buckets + 7) / 8
+  pub long_slots : length slots ≡ 4 * z.buckets
+  pub long_rowa : length rowa ≡ (z.a + 7) / 8
+  pub long_rowb : length rowb ≡ (z.b + 7) / 8
+  pub long_seeds : length seeds ≡ (5 * z.buckets + 7) / 8
   pub sound : Sound z.buckets seeds over
 
 -- the workspace, cut into a word and a mark for each place, and two ends of an edge twice for each slot
 pub record Cut (z : Sizes) (words marks ea eb ka kb : List ℕ) : Type 0 where
-  pub long-words : length words ≡ z.a + z.b
-  pub long-marks : length marks ≡ z.a + z.b
+  pub long_words : length words ≡ z.a + z.b
+  pub long_marks : length marks ≡ z.a + z.b
   pub long_ea : length ea ≡ 4 * z.buckets
   pub long_eb : length eb ≡ 4 * z.buckets
-  pub long-ka : length ka ≡ 4 * z.buckets
-  pub long-kb : length kb ≡ 4 * z.buckets
+  pub long_ka : length ka ≡ 4 * z.buckets
+  pub long_kb : length kb ≡ 4 * z.buckets

@@ -1,5 +1,5 @@
 // The rows' bits, a word for each place.
-ghost use Rattle.std.specs.Prelude.{◌≡◌, ℕ, ◌+◌, ◌-◌, ◌*◌, ◌/◌, ◌<◌, length, if◌then◌else◌, slice_index};
+ghost use Rattle.std.specs.Prelude.{◌≡◌, ℕ, ◌+◌, ◌-◌, ◌/◌, ◌<◌, length, if◌then◌else◌, slice_index};
 ghost use Rattle.shared_table.specs.Memory.{row_of};
 
 use shared::sizes::Sizes;

@@ -2,7 +2,7 @@
 // steps so far leave it, and above that a flag for each step that turns it over.
 #![tactic(auto)]
 
-ghost use Rattle.std.specs.Prelude.{◌≡◌, ℕ, ◌+◌, ◌/◌, ◌%◌, ◌^◌, ◌<◌, cond, length, ◌==◌, slice_index};
+ghost use Rattle.std.specs.Prelude.{◌≡◌, ℕ, ◌+◌, ◌/◌, ◌%◌, ◌^◌, ◌<◌, length, ◌==◌, slice_index};
 ghost use Rattle.book_flips.specs.Words.{stamped_word, stamped_at};
 
 // The word of a place that the step turns over.

@@ -112,13 +112,13 @@ module _ {P S : Type 0} (edge : Part → Edge) (bytes : P → List ℕ) where
 
 -- The ends are inside the sizes, so that they are ready for n places, as many as the sizes have.
 module _ {P S : Type 0} (z : Sizes) (hash : Hash) (bytes : P → List ℕ) where
-  low-a : (n : ℕ) → n ≡ z.a + z.b → (x : Slot P S) → (ends (places_of z hash) bytes x).0 < n
-  low-a n e Empty = omega (arith, z.some_a)
-  low-a n e (Held p s) = omega (arith, mod-lt (hash (258 + 4 * z.turn) (bytes p)) z.some_a)
+  low_a : (n : ℕ) → n ≡ z.a + z.b → (x : Slot P S) → (ends (places_of z hash) bytes x).0 < n
+  low_a n e Empty = omega (arith, z.some_a)
+  low_a n e (Held p s) = omega (arith, mod-lt (hash (258 + 4 * z.turn) (bytes p)) z.some_a)
 
-  low-b : (n : ℕ) → n ≡ z.a + z.b → (x : Slot P S) → (ends (places_of z hash) bytes x).1 < n
-  low-b n e Empty = omega (arith, z.some_a)
-  low-b n e (Held p s) = omega (arith, mod-lt (hash (259 + 4 * z.turn) (bytes p)) z.some_b)
+  low_b : (n : ℕ) → n ≡ z.a + z.b → (x : Slot P S) → (ends (places_of z hash) bytes x).1 < n
+  low_b n e Empty = omega (arith, z.some_a)
+  low_b n e (Held p s) = omega (arith, mod-lt (hash (259 + 4 * z.turn) (bytes p)) z.some_b)
 
   inside_map : (f : Slot P S → ℕ) (n : ℕ) → ((x : Slot P S) → f x < n) → (xs : List (Slot P S)) (ns : List ℕ) → ns ≡ map f xs → Inside ns n
   inside_map f n low xs ns e k l =
@@ -128,8 +128,8 @@ module _ {P S : Type 0} (z : Sizes) (hash : Hash) (bytes : P → List ℕ) where
   pub ready_all : (xs : List (Slot P S)) (ea eb : List ℕ) → Ends (places_of z hash) bytes xs ea eb → (n : ℕ) → n ≡ z.a + z.b → Ready ea eb n
   ready_all xs ea eb h n e = record {
     same = ap length h.a ∙ length-map xs _ ∙ sym (length-map xs _) ∙ sym (ap length h.b);
-    low-a = inside_map (λ x. (ends (places_of z hash) bytes x).0) n (low-a n e) xs ea h.a;
-    low-b = inside_map (λ x. (ends (places_of z hash) bytes x).1) n (low-b n e) xs eb h.b;
+    low_a = inside_map (λ x. (ends (places_of z hash) bytes x).0) n (low_a n e) xs ea h.a;
+    low_b = inside_map (λ x. (ends (places_of z hash) bytes x).1) n (low_b n e) xs eb h.b;
   }
 
   pub ready_left : (k : Part) (xs : List (Slot P S)) (ea eb ka kb : List ℕ) → Ends (places_of z hash) bytes xs ea eb → Left bytes k xs ea eb ka kb → (n : ℕ) → n ≡ z.a + z.b → Ready ka kb n

@@ -136,8 +136,8 @@ pub kept-both : (ea eb m0 m : List ℕ) (n i : ℕ) → Ready ea eb (length m0) 
 kept-both ea eb m0 m n i r l h ne k =
     let x = get_or ea i 0 in
     let y = get_or eb i 0 in
-    let la : x < length m = omega (arith, r.low-a i h) in
-    let lb : y < length m = omega (arith, r.low-b i (omega (arith, r.same))) in
+    let la : x < length m = omega (arith, r.low_a i h) in
+    let lb : y < length m = omega (arith, r.low_b i (omega (arith, r.same))) in
     let t = both-total m x y k.binary la lb ne in
     record {
       binary = both-binary m x y k.binary la lb ne;

@@ -30,15 +30,15 @@ module _ {P S : Type 0} (bytes : P → List ℕ) (k : Part) where
   length-leaving (x ∷ xs) [] e = e
   length-leaving (x ∷ xs) (n ∷ ns) e = ap suc (length-leaving xs ns (omega arith))
 
-  get_d_leaving : (xs : List (Slot P S)) (ns : List ℕ) (i : ℕ) → i < length xs → length ns ≡ length xs → get_or (leaving bytes k xs ns) i 0 ≡ cond (holds bytes k (get_or xs i Empty)) 0 (get_or ns i 0)
+  get_or-leaving : (xs : List (Slot P S)) (ns : List ℕ) (i : ℕ) → i < length xs → length ns ≡ length xs → get_or (leaving bytes k xs ns) i 0 ≡ cond (holds bytes k (get_or xs i Empty)) 0 (get_or ns i 0)
   unfolding leaving
-  get_d_leaving [] ns i h e = absurd (omega arith)
-  get_d_leaving (x ∷ xs) [] i h e = absurd (omega arith)
-  get_d_leaving (x ∷ xs) (n ∷ ns) zero h e = refl
-  get_d_leaving (x ∷ xs) (n ∷ ns) (suc i) h e = get_d_leaving xs ns i (omega arith) (omega arith)
+  get_or-leaving [] ns i h e = absurd (omega arith)
+  get_or-leaving (x ∷ xs) [] i h e = absurd (omega arith)
+  get_or-leaving (x ∷ xs) (n ∷ ns) zero h e = refl
+  get_or-leaving (x ∷ xs) (n ∷ ns) (suc i) h e = get_or-leaving xs ns i (omega arith) (omega arith)
 
   pub left-more : (xs : List (Slot P S)) (ns ms : List ℕ) (i : ℕ) (x : Slot P S) (b : Bool) → i < length xs → length ns ≡ length xs → length ms ≡ length xs → x ≡ get_or xs i x → b ≡ holds bytes k x → take i ms ≡ take i (leaving bytes k xs ns) → take (i + 1) (set ms i (cond b 0 (get_or ns i 0))) ≡ take (i + 1) (leaving bytes k xs ns)
   left-more xs ns ms i x b h ln lm is e inv =
       write_more ms (leaving bytes k xs ns) i (cond b 0 (get_or ns i 0)) (omega arith) (omega (arith, length-leaving xs ns ln))
-      (ap (λ (c : Bool). cond c 0 (get_or ns i 0)) (e ∙ ap (holds bytes k) (get_or_read xs i x h is Empty)) ∙ sym (get_d_leaving xs ns i h ln))
+      (ap (λ (c : Bool). cond c 0 (get_or ns i 0)) (e ∙ ap (holds bytes k) (get_or_read xs i x h is Empty)) ∙ sym (get_or-leaving xs ns i h ln))
       inv

@@ -37,5 +37,5 @@ Inside xs n = (k : ℕ) → k < length xs → slice_index xs k < n
 -- the ends of as many edges, between n places
 pub record Ready (ea eb : List ℕ) (n : ℕ) : Type 0 where
   pub same : length ea ≡ length eb
-  pub low-a : Inside ea n
-  pub low-b : Inside eb n
+  pub low_a : Inside ea n
+  pub low_b : Inside eb n

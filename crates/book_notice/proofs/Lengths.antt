@@ -11,7 +11,7 @@ use Rattle.shared.specs.Notice.{Setting, Kind, Step, bucket, notice_text}
 use Rattle.shared.specs.Table.{slot_of}
 use Rattle.shared.specs.Tokens.{digits_onto}
 use Rattle.chain_laws.proofs.Ranges.{length-map_up}
-use Rattle.shared_text.specs.Events.{Event, begin_bucket, setting_at, rowA, rowB, flip, end_bucket, slot_step, settings_from, step_events, events_of}
+use Rattle.shared_text.specs.Events.{Event, begin_bucket, setting_at, row_a, row_b, flip, end_bucket, slot_step, settings_from, step_events, events_of}
 use Rattle.shared_pen.specs.Pens.{space_before, number_text, behind_spaces, numbers_text, setting_text, event_text, events_text, head_text, end_text}
 use Rattle.shared_pen.specs.Rules.{measured, ruled_event}
 use Rattle.shared_pen.specs.declared.ruler.Ruler.{Ruler}
@@ -60,8 +60,8 @@ space_few (suc i) = omega arith
 abbrev pub Small : Event → Type 0
 Small (begin_bucket j s) = Unit {0}
 Small (setting_at i v) = Short v
-Small rowA = Unit {0}
-Small rowB = Unit {0}
+Small row_a = Unit {0}
+Small row_b = Unit {0}
 Small (flip p) = Unit {0}
 Small end_bucket = Unit {0}
 Small (slot_step j i v) = Short v
@@ -70,8 +70,8 @@ event_few : (e : Event) → Small e → length (event_text e) ≤ 160
 event_few (begin_bucket j s) h =
     omega (arith, number_few j, number_few s, length-append (number_text j) (32 ∷ (number_text s ++ codes " (")), length-append (number_text s) (codes " ("))
 event_few (setting_at i v) h = omega (arith, space_few i, setting_few v h, length-append (space_before i) (setting_text v))
-event_few rowA h = omega arith
-event_few rowB h = omega arith
+event_few row_a h = omega arith
+event_few row_b h = omega arith
 event_few (flip p) h = omega (arith, number_few p)
 event_few end_bucket h = omega arith
 event_few (slot_step j i v) h =
@@ -134,8 +134,8 @@ length-events j s vs pa pb =
     omega (
       arith,
       length-settings 0 vs,
-      length-append (settings_from 0 vs) (rowA ∷ (map flip pa ++ (rowB ∷ (map flip pb ++ (end_bucket ∷ []))))),
-      length-append (map flip pa) (rowB ∷ (map flip pb ++ (end_bucket ∷ []))),
+      length-append (settings_from 0 vs) (row_a ∷ (map flip pa ++ (row_b ∷ (map flip pb ++ (end_bucket ∷ []))))),
+      length-append (map flip pa) (row_b ∷ (map flip pb ++ (end_bucket ∷ []))),
       length-append (map flip pb) (end_bucket ∷ []),
       length-map pa flip,
       length-map pb flip,

@@ -6,7 +6,7 @@ use Rattle.shared.specs.Book.{Held, Slot}
 use Rattle.shared.specs.Lists.{up_from, kept}
 use Rattle.shared.specs.Notice.{Setting, Step, bucket}
 use Rattle.chain_laws.proofs.Ranges.{up_more, up_none}
-use Rattle.shared_text.specs.Events.{Event, begin_bucket, setting_at, rowA, rowB, flip, end_bucket, settings_from, step_events, events_of}
+use Rattle.shared_text.specs.Events.{Event, begin_bucket, setting_at, row_a, row_b, flip, end_bucket, settings_from, step_events, events_of}
 use Rattle.shared_text.proofs.Folds.{folded_append}
 use Rattle.book_steps.specs.declared.plan.Plan.{Plan}
 use Rattle.book_steps.proofs.Fours.{four, four-more, four-end}
@@ -66,20 +66,20 @@ module _ {V : Type 0} (after : V → Event → V) (f : ℕ → Step) (n : ℕ) w
 -- the pieces of a bucket step
 pub step-shown : {V : Type 0} (after : V → Event → V) (v : V) (j s : ℕ) (vs : List Setting) (pa pb : List ℕ)
     → fold after v (step_events (bucket j s vs pa pb))
-    ≡ after (fold after (after (fold after (after (fold after (after v (begin_bucket j s)) (settings_from 0 vs)) rowA) (map flip pa)) rowB) (map flip pb)) end_bucket
+    ≡ after (fold after (after (fold after (after (fold after (after v (begin_bucket j s)) (settings_from 0 vs)) row_a) (map flip pa)) row_b) (map flip pb)) end_bucket
 step-shown after v j s vs pa pb =
-    folded_append after (after v (begin_bucket j s)) (settings_from 0 vs) (rowA ∷ (map flip pa ++ (rowB ∷ (map flip pb ++ (end_bucket ∷ [])))))
-    ∙ folded_append after _ (map flip pa) (rowB ∷ (map flip pb ++ (end_bucket ∷ [])))
+    folded_append after (after v (begin_bucket j s)) (settings_from 0 vs) (row_a ∷ (map flip pa ++ (row_b ∷ (map flip pb ++ (end_bucket ∷ [])))))
+    ∙ folded_append after _ (map flip pa) (row_b ∷ (map flip pb ++ (end_bucket ∷ [])))
     ∙ folded_append after _ (map flip pb) (end_bucket ∷ [])
 
 pub step-pieces : {V : Type 0} (after : V → Event → V) (v0 v1 v2 v3 v4 v5 v6 v7 : V) (j s s' : ℕ) (vs vs' : List Setting) (pa pa' pb pb' : List ℕ)
     → v1 ≡ after v0 (begin_bucket j s') → s' ≡ s → v2 ≡ fold after v1 (settings_from 0 vs') → vs' ≡ vs
-    → v3 ≡ after v2 rowA → v4 ≡ fold after v3 (map flip pa') → pa' ≡ pa → v5 ≡ after v4 rowB → v6 ≡ fold after v5 (map flip pb') → pb' ≡ pb → v7 ≡ after v6 end_bucket
+    → v3 ≡ after v2 row_a → v4 ≡ fold after v3 (map flip pa') → pa' ≡ pa → v5 ≡ after v4 row_b → v6 ≡ fold after v5 (map flip pb') → pb' ≡ pb → v7 ≡ after v6 end_bucket
     → v7 ≡ fold after v0 (step_events (bucket j s vs pa pb))
 step-pieces after v0 v1 v2 v3 v4 v5 v6 v7 j s s' vs vs' pa pa' pb pb' e1 es e2 evs e3 e4 ea e5 e6 eb e7 =
     let a2 : v2 ≡ fold after (after v0 (begin_bucket j s)) (settings_from 0 vs) = e2 ∙ ap₂ (λ v l. fold after v (settings_from 0 l)) (e1 ∙ ap (λ (n : ℕ). after v0 (begin_bucket j n)) es) evs in
-    let a4 : v4 ≡ fold after (after v2 rowA) (map flip pa) = e4 ∙ ap₂ (λ v (l : List ℕ). fold after v (map flip l)) e3 ea in
-    let a6 : v6 ≡ fold after (after v4 rowB) (map flip pb) = e6 ∙ ap₂ (λ v (l : List ℕ). fold after v (map flip l)) e5 eb in
+    let a4 : v4 ≡ fold after (after v2 row_a) (map flip pa) = e4 ∙ ap₂ (λ v (l : List ℕ). fold after v (map flip l)) e3 ea in
+    let a6 : v6 ≡ fold after (after v4 row_b) (map flip pb) = e6 ∙ ap₂ (λ v (l : List ℕ). fold after v (map flip l)) e5 eb in
     e7
-    ∙ ap (λ v. after v end_bucket) (a6 ∙ ap (λ v. fold after (after v rowB) (map flip pb)) (a4 ∙ ap (λ v. fold after (after v rowA) (map flip pa)) a2))
+    ∙ ap (λ v. after v end_bucket) (a6 ∙ ap (λ v. fold after (after v row_b) (map flip pb)) (a4 ∙ ap (λ v. fold after (after v row_a) (map flip pa)) a2))
     ∙ sym (step-shown after v0 j s vs pa pb)

@@ -1,10 +1,10 @@
 // Shows a planned enter's steps to a pass, in the order of the notice's text.
-ghost use Rattle.std.specs.Prelude.{◌≡◌, ℕ, suc, ◌+◌, ◌-◌, ◌*◌, ◌<◌, ◌≤◌, [], ◌∷◌, map, length, fold};
+ghost use Rattle.std.specs.Prelude.{◌≡◌, ◌+◌, ◌-◌, ◌*◌, ◌<◌, ◌≤◌, [], ◌∷◌, map, length, fold};
 ghost use Rattle.shared.specs.Book.{value_at};
 ghost use Rattle.shared_text.specs.Events.{flip, settings_from, step_events, events_of};
 ghost use Rattle.chain_laws.specs.Plans.{filled};
 ghost use Rattle.book_slots.specs.Slots.{slot_in};
-ghost use Rattle.book_steps.specs.Plans.{Fit, held_at, flagged_from, values_at, shown_step, shown_steps};
+ghost use Rattle.book_steps.specs.Plans.{Fit, held_at, flagged_from, shown_step, shown_steps};
 
 use crate::bucket::setting_under;
 use crate::plan::Plan;

@@ -24,7 +24,7 @@ use Rattle.history.proofs.Entries.{over-found, room_after}
 use Rattle.history.proofs.Judged.{Judged, unless-judged, given-judged, answer-judged}
 use Rattle.history.proofs.Least.{chain-none, chain-used, used_same}
 use Rattle.history.proofs.Seeds.{seeded, seeded-placed, placed-number}
-use Rattle.history.proofs.Stages.{from_call, from_number, from_sheet, fromEntries, fromSeeds, fromChain, fromEdges, changed, changedStep, struck}
+use Rattle.history.proofs.Stages.{from_call, from_number, from_sheet, from_entries, from_seeds, from_chain, from_edges, changed, changed_step, struck}
 use Rattle.history.proofs.Stories.{same, story-kept, answered-numbers}
 use Rattle.history.proofs.Tales.{tale, sure, table_after}
 use Rattle.history.proofs.TheLaw.{writing}
@@ -110,7 +110,7 @@ module _ (shut : Bool) (z : Sizes) (hash : Hash) (kind : Kind) (w : Story) (q : 
             let f : put c ≡ some (s.after, steps) = subst (λ (d : ℕ × List ℕ). put d ≡ some (s.after, steps)) (used_same z hash b.slot k s.path c s.used used) s.put in
             ap (λ (x : Book × List Step). x.1) (some_same (sym f ∙ e))
 
-        entries-judged : Judged (fromEntries z hash kind b room k v r) (cause 10 C10 ∷ cause 11 C11 ∷ [])
+        entries-judged : Judged (from_entries z hash kind b room k v r) (cause 10 C10 ∷ cause 11 C11 ∷ [])
         entries-judged =
             unless-judged (overflows z b.seed r.1) 10 (λ _. told kind room r.0 r.1) C10 (cause 11 C11 ∷ [])
             (λ o. (r.1, its-steps, over-found z b.seed r.1 o))
@@ -121,8 +121,8 @@ module _ (shut : Bool) (z : Sizes) (hash : Hash) (kind : Kind) (w : Story) (q : 
             clash : {m n : ℕ} → n ≤ m → m < n → ⊥
             clash p l = let h : 1 ≤ 0 = omega arith in not-suc-le-zero h
 
-      seeds-judged : Judged (fromSeeds z hash kind b room k v c) (cause 9 C9 ∷ cause 10 C10 ∷ cause 11 C11 ∷ [])
-      seeds-judged = given-judged (put c) 9 (fromEntries z hash kind b room k v) C9 (cause 10 C10 ∷ cause 11 C11 ∷ []) no-seed all-seeded entries-judged
+      seeds-judged : Judged (from_seeds z hash kind b room k v c) (cause 9 C9 ∷ cause 10 C10 ∷ cause 11 C11 ∷ [])
+      seeds-judged = given-judged (put c) 9 (from_entries z hash kind b room k v) C9 (cause 10 C10 ∷ cause 11 C11 ∷ []) no-seed all-seeded entries-judged
 
     abbrev C7 : Type 0
     C7 = (c : ℕ × List ℕ) → ChainFor z hash b.slot k c → ⊥
@@ -132,12 +132,12 @@ module _ (shut : Bool) (z : Sizes) (hash : Hash) (kind : Kind) (w : Story) (q : 
 
     enter_judged : Judged (called z hash kind b room (enter k v)) (of_call shut z hash kind w q (enter k v))
     enter_judged =
-        unless-judged (is_found (where_is z b.slot k)) 5 (fromEdges z hash kind b room k v) (Stands shut z hash kind w q k) (cause 8 C8 ∷ cause 7 C7 ∷ cause 9 C9 ∷ cause 10 C10 ∷ cause 11 C11 ∷ [])
+        unless-judged (is_found (where_is z b.slot k)) 5 (from_edges z hash kind b room k v) (Stands shut z hash kind w q k) (cause 8 C8 ∷ cause 7 C7 ∷ cause 9 C9 ∷ cause 10 C10 ∷ cause 11 C11 ∷ [])
         (λ e. let p = found_some (where_is z b.slot k) e in found_stands k p.0 p.1) (lost_stands k)
-        (λ _. unless-judged tested 8 (fromChain z hash kind b room k v) C8 (cause 7 C7 ∷ cause 9 C9 ∷ cause 10 C10 ∷ cause 11 C11 ∷ [])
+        (λ _. unless-judged tested 8 (from_chain z hash kind b room k v) C8 (cause 7 C7 ∷ cause 9 C9 ∷ cause 10 C10 ∷ cause 11 C11 ∷ [])
         (λ e. decides (map (edge z hash) parts) (edge z hash k).0 (edge z hash k).1 e)
         (λ e j. both_ways tested e (decided (map (edge z hash) parts) (edge z hash k).0 (edge z hash k).1 j))
-        (λ _. given-judged (chain z hash b.slot k) 7 (fromSeeds z hash kind b room k v) C7 (cause 9 C9 ∷ cause 10 C10 ∷ cause 11 C11 ∷ [])
+        (λ _. given-judged (chain z hash b.slot k) 7 (from_seeds z hash kind b room k v) C7 (cause 9 C9 ∷ cause 10 C10 ∷ cause 11 C11 ∷ [])
         (chain-none z hash b.slot k) (λ c e n. n c (chain-used z hash b.slot k c e).own) seeds-judged))
       where
         tested : Bool
@@ -149,8 +149,8 @@ module _ (shut : Bool) (z : Sizes) (hash : Hash) (kind : Kind) (w : Story) (q : 
 
   change_judged : (k : Part) (v : Setting) → Judged (called z hash kind b room (change k v)) (of_call shut z hash kind w q (change k v))
   change_judged k v =
-      given-judged (where_is z b.slot k) 6 (λ p. told kind room (changed z hash kind b room k v p) (changedStep z hash kind b room k v p)) (Stands shut z hash kind w q k → ⊥) (cause 11 C ∷ [])
-      (lost k) (λ p e n. n (found_stands k p e)) (λ p e. told-judged (changed z hash kind b room k v p) (changedStep z hash kind b room k v p) C refl (there p e) (back p e))
+      given-judged (where_is z b.slot k) 6 (λ p. told kind room (changed z hash kind b room k v p) (changed_step z hash kind b room k v p)) (Stands shut z hash kind w q k → ⊥) (cause 11 C ∷ [])
+      (lost k) (λ p e n. n (found_stands k p e)) (λ p e. told-judged (changed z hash kind b room k v p) (changed_step z hash kind b room k v p) C refl (there p e) (back p e))
     where
       long : ℕ → Type 0
       long j = TooLong shut z hash kind w q (single j (slot_of hash (b.seed j) k) v ∷ [])

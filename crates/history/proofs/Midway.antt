@@ -74,12 +74,12 @@ module _ (shut : Bool) (z : Sizes) (hash : Hash) (kind : Kind) (rs : List Reques
 
   record Longer (w : Tale) : Type 0 where
     long : length old.notices ≤ length w.notices
-    calls-long : length old.calls ≤ length w.calls
+    calls_long : length old.calls ≤ length w.calls
     notices : (n : ℕ) → n ≤ length old.notices → up_to n w.notices ≡ up_to n old.notices
     calls : (n : ℕ) → n ≤ length old.calls → up_to n w.calls ≡ up_to n old.calls
 
   longer : (later : List Request) → Longer (tale shut z hash kind (later ++ rs))
-  longer [] = record { long = (let h : length old.notices ≤ length old.notices = omega arith in h); calls-long = (let h : length old.calls ≤ length old.calls = omega arith in h); notices = λ n h. refl; calls = λ n h. refl }
+  longer [] = record { long = (let h : length old.notices ≤ length old.notices = omega arith in h); calls_long = (let h : length old.calls ≤ length old.calls = omega arith in h); notices = λ n h. refl; calls = λ n h. refl }
   longer (q ∷ later) = go (longer later) (answered z hash kind shut w.book q)
     where
       w : Tale
@@ -89,10 +89,10 @@ module _ (shut : Bool) (z : Sizes) (hash : Hash) (kind : Kind) (rs : List Reques
       go ih (refused n) = ih
       go ih (done b ss) =
           let l1 : length old.notices ≤ length w.notices = ih.long in
-          let l2 : length old.calls ≤ length w.calls = ih.calls-long in
+          let l2 : length old.calls ≤ length w.calls = ih.calls_long in
           record {
             long = omega arith;
-            calls-long = omega arith;
+            calls_long = omega arith;
             notices = λ n h. up_more n (b.number, ss) w.notices (omega arith) ∙ ih.notices n h;
             calls = λ n h. up_more n q.call w.calls (omega arith) ∙ ih.calls n h;
           }

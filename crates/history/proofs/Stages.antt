@@ -26,24 +26,24 @@ module _ (z : Sizes) (hash : Hash) (kind : Kind) (b : Book) where
       abbrev pub before : List Part
       before = map part_of (standing z b.slot)
 
-      abbrev pub fromEntries : Book × List Step → Outcome
-      fromEntries r = unless (overflows z b.seed r.1) 10 (λ _. told kind room r.0 r.1)
+      abbrev pub from_entries : Book × List Step → Outcome
+      from_entries r = unless (overflows z b.seed r.1) 10 (λ _. told kind room r.0 r.1)
 
-      abbrev pub fromSeeds : ℕ × List ℕ → Outcome
-      fromSeeds c = given (placed z hash kind.blank before b c.0 (k, v) c.1) 9 fromEntries
+      abbrev pub from_seeds : ℕ × List ℕ → Outcome
+      from_seeds c = given (placed z hash kind.blank before b c.0 (k, v) c.1) 9 from_entries
 
-      abbrev pub fromChain : Unit {0} → Outcome
-      fromChain _ = given (chain z hash b.slot k) 7 fromSeeds
+      abbrev pub from_chain : Unit {0} → Outcome
+      from_chain _ = given (chain z hash b.slot k) 7 from_seeds
 
-      abbrev pub fromEdges : Unit {0} → Outcome
-      fromEdges _ = unless (joins (map (edge z hash) before) (edge z hash k).0 (edge z hash k).1) 8 fromChain
+      abbrev pub from_edges : Unit {0} → Outcome
+      from_edges _ = unless (joins (map (edge z hash) before) (edge z hash k).0 (edge z hash k).1) 8 from_chain
 
       -- a change, where the part stands
       abbrev pub changed : ℕ × ℕ → Book
       changed p = slots b (at2 b.slot p.0 p.1 (some (k, v)))
 
-      abbrev pub changedStep : ℕ × ℕ → List Step
-      changedStep p = single p.0 (slot_of hash (b.seed p.0) k) v ∷ []
+      abbrev pub changed_step : ℕ × ℕ → List Step
+      changed_step p = single p.0 (slot_of hash (b.seed p.0) k) v ∷ []
 
     -- a strike, where the part stands
     abbrev pub struck : ℕ × ℕ → Book

@@ -16,7 +16,7 @@ use Rattle.shared.specs.Table.{edge, overflows}
 use Rattle.history.specs.History.{Story, story, grown, notice_in}
 use Rattle.history.specs.Premises.{Family}
 use Rattle.history.proofs.Calls.{Kept, no_book}
-use Rattle.history.proofs.Stages.{from_call, from_number, from_sheet, before, fromEntries, fromSeeds, fromChain, fromEdges, changed, changedStep, struck}
+use Rattle.history.proofs.Stages.{from_call, from_number, from_sheet, before, from_entries, from_seeds, from_chain, from_edges, changed, changed_step, struck}
 use Rattle.history.proofs.Tales.{Tale, tale, heard, sure, table_after}
 
 -- no refusal has the number 0
@@ -40,14 +40,14 @@ module _ (z : Sizes) (hash : Hash) (kind : Kind) where
 
   called-numbers : (b : Book) (room : ℕ) (c : Call) → Numbers (called z hash kind b room c)
   called-numbers b room (enter k v) =
-      unless-numbers (is_found (where_is z b.slot k)) 5 (fromEdges z hash kind b room k v) (omega arith)
-      (unless-numbers (joins (map (edge z hash) (before z hash kind b room k v)) (edge z hash k).0 (edge z hash k).1) 8 (fromChain z hash kind b room k v) (omega arith)
-      (given-numbers (chain z hash b.slot k) 7 (fromSeeds z hash kind b room k v) (omega arith) (λ c.
-      given-numbers (placed z hash kind.blank (before z hash kind b room k v) b c.0 (k, v) c.1) 9 (fromEntries z hash kind b room k v) (omega arith) (λ r.
+      unless-numbers (is_found (where_is z b.slot k)) 5 (from_edges z hash kind b room k v) (omega arith)
+      (unless-numbers (joins (map (edge z hash) (before z hash kind b room k v)) (edge z hash k).0 (edge z hash k).1) 8 (from_chain z hash kind b room k v) (omega arith)
+      (given-numbers (chain z hash b.slot k) 7 (from_seeds z hash kind b room k v) (omega arith) (λ c.
+      given-numbers (placed z hash kind.blank (before z hash kind b room k v) b c.0 (k, v) c.1) 9 (from_entries z hash kind b room k v) (omega arith) (λ r.
       unless-numbers (overflows z b.seed r.1) 10 (λ _. told kind room r.0 r.1) (omega arith) (told-numbers room r.0 r.1)))))
   called-numbers b room (change k v) =
-      given-numbers (where_is z b.slot k) 6 (λ p. told kind room (changed z hash kind b room k v p) (changedStep z hash kind b room k v p)) (omega arith)
-      (λ p. told-numbers room (changed z hash kind b room k v p) (changedStep z hash kind b room k v p))
+      given-numbers (where_is z b.slot k) 6 (λ p. told kind room (changed z hash kind b room k v p) (changed_step z hash kind b room k v p)) (omega arith)
+      (λ p. told-numbers room (changed z hash kind b room k v p) (changed_step z hash kind b room k v p))
   called-numbers b room (strike k) =
       given-numbers (where_is z b.slot k) 6 (λ p. told kind room (struck z hash kind b room k p) []) (omega arith) (λ p. told-numbers room (struck z hash kind b room k p) [])
 

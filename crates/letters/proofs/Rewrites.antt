@@ -8,7 +8,7 @@ use Rattle.shared.specs.Notice.{Setting, Step, bucket, single, Notice, step_form
 use Rattle.shared.specs.Forms.{times_fits}
 use Rattle.shared.proofs.Words.{between-parts}
 use Rattle.shared_text.proofs.Folds.{folded_append}
-use Rattle.shared_text.specs.Events.{Event, rowA, rowB, flip, end_bucket, settings_from, step_events, events_of}
+use Rattle.shared_text.specs.Events.{Event, row_a, row_b, flip, end_bucket, settings_from, step_events, events_of}
 use Rattle.shared_notice.specs.Walks.{with_number, passed}
 use Rattle.text_laws.proofs.Faithful.{faithful}
 use Rattle.letters.specs.declared.StepCount.{StepCount}
@@ -48,9 +48,9 @@ count_flips c (p ∷ ps) = count_flips c ps
 
 count_step : (c : StepCount) (s : Step) → fold counted c (step_events s) ≡ more c
 count_step c (bucket j s vs pa pb) =
-    folded_append counted (more c) (settings_from 0 vs) (rowA ∷ (map flip pa ++ (rowB ∷ (map flip pb ++ (end_bucket ∷ [])))))
-    ∙ ap (λ (d : StepCount). fold counted d (map flip pa ++ (rowB ∷ (map flip pb ++ (end_bucket ∷ []))))) (count_settings (more c) 0 vs)
-    ∙ folded_append counted (more c) (map flip pa) (rowB ∷ (map flip pb ++ (end_bucket ∷ [])))
+    folded_append counted (more c) (settings_from 0 vs) (row_a ∷ (map flip pa ++ (row_b ∷ (map flip pb ++ (end_bucket ∷ [])))))
+    ∙ ap (λ (d : StepCount). fold counted d (map flip pa ++ (row_b ∷ (map flip pb ++ (end_bucket ∷ []))))) (count_settings (more c) 0 vs)
+    ∙ folded_append counted (more c) (map flip pa) (row_b ∷ (map flip pb ++ (end_bucket ∷ [])))
     ∙ ap (λ (d : StepCount). fold counted d (map flip pb ++ (end_bucket ∷ []))) (count_flips (more c) pa)
     ∙ folded_append counted (more c) (map flip pb) (end_bucket ∷ [])
     ∙ count_flips (more c) pb

@@ -2,7 +2,7 @@
 use Rattle.std.specs.Prelude.{◌≡◌, ℕ, ◌+◌, ◌≤◌, min, List, ◌++◌, length, drop, Ok, Err, Result}
 use Rattle.shared.specs.declared.refusal.Fault.{Fault}
 use Rattle.shared.specs.Notice.{Step, read_notice}
-use Rattle.shared_text.specs.Events.{Event, begin_bucket, setting_at, rowA, rowB, flip, end_bucket, slot_step}
+use Rattle.shared_text.specs.Events.{Event, begin_bucket, setting_at, row_a, row_b, flip, end_bucket, slot_step}
 use Rattle.letters.specs.declared.Head.{Head}
 use Rattle.letters.specs.declared.StepCount.{StepCount}
 use Rattle.letters.specs.Letters.{trims}
@@ -13,8 +13,8 @@ more c = record { steps = min (c.steps + 1) 255 }
 abbrev pub counted : StepCount → Event → StepCount
 counted c (begin_bucket j s) = more c
 counted c (setting_at i v) = c
-counted c rowA = c
-counted c rowB = c
+counted c row_a = c
+counted c row_b = c
 counted c (flip p) = c
 counted c end_bucket = c
 counted c (slot_step j i v) = more c

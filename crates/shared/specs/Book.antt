@@ -1,5 +1,5 @@
 -- The workshop's book: the maintenance structure that holds the keys and writes the notices.
-use Rattle.std.specs.Prelude.{ℕ, zero, suc, ◌+◌, ◌-◌, Bool, true, false, cond, not, ltb, List, [], ◌∷◌, ◌++◌, map, length, drop, ◌==◌, nat_le, nat_lt}
+use Rattle.std.specs.Prelude.{ℕ, zero, suc, ◌+◌, ◌-◌, Bool, true, false, cond, not, List, [], ◌∷◌, ◌++◌, map, length, drop, ◌==◌, nat_le, nat_lt}
 use Rattle.std.proofs.Math.Option.{Option, none, some}
 use Rattle.shared.specs.declared.sizes.Sizes.{Sizes}
 use Rattle.shared.specs.Answers.{Answer, accepted, refused_with}
@@ -128,7 +128,7 @@ module _ (z : Sizes) (hash : Hash) (blank : Setting) where
   step_for before b j i h s =
       let ps = turned before b.row j h.0 in
       bucket j s (map (value_at hash blank s (holding b j i h)) (0 ∷ 1 ∷ 2 ∷ 3 ∷ []))
-      (kept (λ p. ltb p z.a) ps)
+      (kept (λ p. nat_lt p z.a) ps)
       (map (λ p. p - z.a) (kept (λ p. nat_le z.a p) ps))
 
   abbrev pub written : List Part → Book → ℕ → ℕ → Held → Option (Book × Step)

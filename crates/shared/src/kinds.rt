@@ -1,6 +1,6 @@
 // The three kinds that every rule is written over. A ghost member says what a value means, and the laws say what the
 // rules ask of that meaning.
-ghost use Rattle.std.specs.Prelude.{◌≡◌, ℕ, ◌+◌, ◌*◌, ◌^◌, ◌<◌, ◌≤◌, Bool, true, List, [], ◌∷◌, length, slice_index};
+ghost use Rattle.std.specs.Prelude.{◌≡◌, ℕ, ◌+◌, ◌*◌, ◌^◌, ◌<◌, ◌≤◌, Bool, true, List, length, slice_index};
 ghost use Rattle.shared.specs.Kinds.{setting_read, setting_asked, four_hashes};
 
 use crate::refusal::SettingFault;

@@ -1,5 +1,5 @@
 // The five sizes of a book and of its controllers.
-ghost use Rattle.std.specs.Prelude.{◌≡◌, ℕ, ◌≤◌, [], ◌∷◌};
+ghost use Rattle.std.specs.Prelude.{◌≡◌, ◌≤◌, [], ◌∷◌};
 ghost use Rattle.shared.specs.Answers.{answer};
 ghost use Rattle.shared.specs.Limits.{sizes_asked};
 

@@ -1,5 +1,5 @@
 // The held-back family: 0 for the seeds below its start, then Pearson's numbers. It makes buckets seek larger seeds.
-ghost use Rattle.std.specs.Prelude.{◌≡◌, ℕ, ◌≤◌};
+ghost use Rattle.std.specs.Prelude.{◌≡◌, ◌≤◌};
 ghost use Rattle.shared_families.specs.Hashes.{held_back};
 ghost use Rattle.shared_families.specs.Starts.{start_of, start_asked};
 ghost use Rattle.std.proofs.Common.{rules};

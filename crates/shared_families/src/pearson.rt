@@ -1,5 +1,5 @@
 // The Pearson family: four lanes that absorb the seed's two bytes and the part's, each through one table.
-ghost use Rattle.std.specs.Prelude.{◌≡◌, ℕ, ◌+◌, ◌*◌};
+ghost use Rattle.std.specs.Prelude.{◌≡◌, ◌+◌, ◌*◌};
 ghost use Rattle.shared_families.specs.Hashes.{pearson};
 ghost use Rattle.shared_families.specs.Lanes.{lanes_step, lanes_number};
 ghost use Rattle.shared_families.specs.Packs.{pearson-low};

@@ -1,5 +1,5 @@
 // A set number: a setting that is one number from 0 to 65,535. The blank is 0.
-ghost use Rattle.std.specs.Prelude.{◌≡◌, ℕ, ◌<◌, [], ◌∷◌, slice_index};
+ghost use Rattle.std.specs.Prelude.{◌<◌, [], ◌∷◌, slice_index};
 ghost use Rattle.shared_kinds.specs.Settings.{is_set_number};
 ghost use Rattle.shared_kinds.specs.SettingLaws.{set_number-list};
 ghost use Rattle.std.proofs.Common.{rules, arith};

@@ -1,5 +1,5 @@
 // A trim: advance in tenths of a degree, fuel in thousandths and dwell in microseconds. The blank is 0, 1000, 0.
-ghost use Rattle.std.specs.Prelude.{◌≡◌, ℕ, ◌≤◌, [], ◌∷◌, slice_index};
+ghost use Rattle.std.specs.Prelude.{◌≡◌, ◌≤◌, [], ◌∷◌, slice_index};
 ghost use Rattle.shared.specs.Answers.{answer};
 ghost use Rattle.shared_kinds.specs.Settings.{is_trim, trim_asked};
 ghost use Rattle.shared_kinds.specs.SettingLaws.{trim-list};

@@ -7,7 +7,7 @@ use Rattle.shared.specs.declared.refusal.Refusal.TheVariants.{Malformed}
 use Rattle.shared.specs.Forms.{Form, and_then, lead, pair, series, ascending}
 use Rattle.shared.specs.Notice.{Setting, Kind, Notice, BucketParts, SlotParts, as_bucket, as_single, opening, gap, small, setting_form}
 use Rattle.shared.specs.Tokens.{Open, Close, Space, mark}
-use Rattle.shared_text.specs.Events.{Event, begin_bucket, rowA, rowB, flip, settings_from, step_events, events_of}
+use Rattle.shared_text.specs.Events.{Event, begin_bucket, row_a, row_b, flip, settings_from, step_events, events_of}
 use Rattle.shared_notice.specs.declared.setting.Misread.{Misread}
 
 -- a setting kind as far as texts need it
@@ -45,13 +45,13 @@ abbrev pub a_form : Form (List ℕ)
 a_form = lead (mark Close ∷ mark Space ∷ opening (codes "a")) (ascending 65535)
 
 abbrev pub a_events : List ℕ → List Event
-a_events places = rowA ∷ flips places
+a_events places = row_a ∷ flips places
 
 abbrev pub b_form : Form (List ℕ)
 b_form = lead (mark Space ∷ opening (codes "b")) (ascending 65535)
 
 abbrev pub b_events : List ℕ → List Event
-b_events places = rowB ∷ flips places
+b_events places = row_b ∷ flips places
 
 abbrev pub row_events : List ℕ × List ℕ → List Event
 row_events rows = a_events rows.0 ++ b_events rows.1

@@ -1,6 +1,6 @@
 // Notices, read in one pass with no step stored: a visitor sees each piece of a step where it stands in the text.
 ghost use Rattle.std.specs.Prelude.{◌≡◌};
-ghost use Rattle.shared.specs.Forms.{Form, pair, ascending, series, times};
+ghost use Rattle.shared.specs.Forms.{pair, ascending, series, times};
 ghost use Rattle.shared.specs.Notice.{head_form, end_form, setting_form, slot_form, bucket_form, step_form, read_notice};
 ghost use Rattle.shared_text.specs.Events.{settings_from, step_events, events_of};
 ghost use Rattle.shared_notice.specs.Walks.{kind_of, beside, walked, flips, a_form, a_events, b_form, b_events, row_events, content_form, content_events, bucket_events, slot_events, with_number, passed};

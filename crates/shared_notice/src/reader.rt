@@ -1,6 +1,6 @@
 // What has to stand at a place of a text: each call answers the place after it, or the fault of the first wrong token.
 ghost use Rattle.std.specs.Prelude.{◌≡◌, ◌+◌, ◌≤◌, IfOk};
-ghost use Rattle.shared.specs.Forms.{pass_at, tok_at, toks_at, num_at, lead, Form};
+ghost use Rattle.shared.specs.Forms.{pass_at, tok_at, toks_at, num_at, lead};
 ghost use Rattle.shared.specs.Notice.{small, gap, line_end, opening};
 ghost use Rattle.shared.specs.Tokens.{mark, word, is_end};
 ghost use Rattle.shared_text.specs.Views.{mark_of};

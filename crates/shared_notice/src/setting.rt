@@ -1,7 +1,7 @@
 // Settings in a text. A list of numbers that is no setting of its kind is the kind's own fault; it goes up as the fault of
 // the text, and from there as the refusal of the call that was given the text.
 ghost use Rattle.std.specs.Prelude.{◌≡◌, ◌-◌, ◌≤◌, take};
-ghost use Rattle.shared.specs.Forms.{Form, lead, series};
+ghost use Rattle.shared.specs.Forms.{lead, series};
 ghost use Rattle.shared.specs.Notice.{small, gap, setting_form};
 ghost use Rattle.shared_notice.specs.Walks.{kind_of, mapped, in_fault, judged_at, numbers_of};
 

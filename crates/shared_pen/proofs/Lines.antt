@@ -4,7 +4,7 @@ use Rattle.std.proofs.lemmas.List.{append-nil}
 use Rattle.shared.specs.Forms.{lead, times_tokens, series_tokens, ascending_tokens}
 use Rattle.shared.specs.Notice.{Setting, Kind, Step, bucket, single, small, gap, setting_form, step_form, end_form}
 use Rattle.shared.specs.Tokens.{Open, Close, Space, Line, Tok, mark, word, spelled, spell, numeral}
-use Rattle.shared_text.specs.Events.{Event, rowA, rowB, flip, end_bucket, slot_step, settings_from, step_events, events_of}
+use Rattle.shared_text.specs.Events.{Event, row_a, row_b, flip, end_bucket, slot_step, settings_from, step_events, events_of}
 use Rattle.shared_pen.specs.Pens.{number_text, behind_spaces, numbers_text, setting_text, event_text, events_text, head_text, end_text, NoticeInEvents}
 
 spell-append : (xs ys : List Tok) → spell (xs ++ ys) ≡ spell xs ++ spell ys
@@ -57,7 +57,7 @@ bucket_tokens j s vs pa pb =
     ∙ ap (λ l. l ++ (41 ∷ 10 ∷ [])) (spell-append front (rowa ++ rowb) ∙ ap (λ l. spell front ++ l) (spell-append rowa rowb))
     ∙ simp append_assoc
 
-bucket_events_lem : (j s : List ℕ) (vs pa pb : List Event) → (codes "(bucket " ++ (j ++ (32 ∷ (s ++ codes " (")))) ++ events_text (vs ++ (rowA ∷ (pa ++ (rowB ∷ (pb ++ (end_bucket ∷ [])))))) ≡ codes "(bucket" ++ (32 ∷ (j ++ (32 ∷ (s ++ (32 ∷ 40 ∷ (events_text vs ++ (41 ∷ 32 ∷ 40 ∷ 97 ∷ ((events_text pa ++ (41 ∷ [])) ++ (32 ∷ 40 ∷ 98 ∷ ((events_text pb ++ (41 ∷ [])) ++ (41 ∷ 10 ∷ [])))))))))))
+bucket_events_lem : (j s : List ℕ) (vs pa pb : List Event) → (codes "(bucket " ++ (j ++ (32 ∷ (s ++ codes " (")))) ++ events_text (vs ++ (row_a ∷ (pa ++ (row_b ∷ (pb ++ (end_bucket ∷ [])))))) ≡ codes "(bucket" ++ (32 ∷ (j ++ (32 ∷ (s ++ (32 ∷ 40 ∷ (events_text vs ++ (41 ∷ 32 ∷ 40 ∷ 97 ∷ ((events_text pa ++ (41 ∷ [])) ++ (32 ∷ 40 ∷ 98 ∷ ((events_text pb ++ (41 ∷ [])) ++ (41 ∷ 10 ∷ [])))))))))))
 bucket_events_lem j s vs pa pb = simp (events_append, append_assoc)
 
 slot_tokens : (j i : List ℕ) (v : List Tok) → spell ((mark Space ∷ word j ∷ mark Space ∷ word i ∷ mark Space ∷ v) ++ (mark Close ∷ mark Line ∷ [])) ≡ 32 ∷ (j ++ (32 ∷ (i ++ (32 ∷ (spell v ++ (41 ∷ 10 ∷ []))))))

@@ -1,6 +1,6 @@
 -- A ruler, byte after byte.
 use Rattle.std.proofs.Common.{◌≡◌, ℕ, zero, suc, ◌+◌, ◌-◌, ◌^◌, ◌≤◌, min, List, [], ◌∷◌, length, refl, ap, ◌∙◌, arith}
-use Rattle.shared_text.specs.Events.{Event, begin_bucket, setting_at, rowA, rowB, flip, end_bucket, slot_step}
+use Rattle.shared_text.specs.Events.{Event, begin_bucket, setting_at, row_a, row_b, flip, end_bucket, slot_step}
 use Rattle.shared_pen.specs.declared.ruler.Ruler.{Ruler}
 use Rattle.shared_pen.specs.Inks.{poured}
 use Rattle.shared_pen.specs.Pens.{event_text}
@@ -25,8 +25,8 @@ event_some : (e : Event) → 1 ≤ length (event_text e)
 event_some (begin_bucket j s) = omega arith
 event_some (setting_at zero v) = omega arith
 event_some (setting_at (suc i) v) = omega arith
-event_some rowA = omega arith
-event_some rowB = omega arith
+event_some row_a = omega arith
+event_some row_b = omega arith
 event_some (flip p) = omega arith
 event_some end_bucket = omega arith
 event_some (slot_step j i v) = omega arith

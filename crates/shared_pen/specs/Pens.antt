@@ -2,7 +2,7 @@
 use Rattle.std.specs.Prelude.{◌≡◌, ℕ, zero, suc, List, [], ◌∷◌, ◌++◌, length, codes}
 use Rattle.shared.specs.Notice.{Setting, Kind, Step, notice_text}
 use Rattle.shared.specs.Tokens.{numeral}
-use Rattle.shared_text.specs.Events.{Event, begin_bucket, setting_at, rowA, rowB, flip, end_bucket, slot_step, events_of}
+use Rattle.shared_text.specs.Events.{Event, begin_bucket, setting_at, row_a, row_b, flip, end_bucket, slot_step, events_of}
 
 -- a space in front of all but the first
 abbrev pub space_before : ℕ → List ℕ
@@ -31,8 +31,8 @@ setting_text v = 40 ∷ (numbers_text v ++ (41 ∷ []))
 abbrev pub event_text : Event → List ℕ
 event_text (begin_bucket j s) = codes "(bucket " ++ (number_text j ++ (32 ∷ (number_text s ++ codes " (")))
 event_text (setting_at i v) = space_before i ++ setting_text v
-event_text rowA = codes ") (a"
-event_text rowB = codes ") (b"
+event_text row_a = codes ") (a"
+event_text row_b = codes ") (b"
 event_text (flip p) = 32 ∷ number_text p
 event_text end_bucket = 41 ∷ 41 ∷ 10 ∷ []
 event_text (slot_step j i v) = codes "(slot " ++ (number_text j ++ (32 ∷ (number_text i ++ (32 ∷ (setting_text v ++ (41 ∷ 10 ∷ []))))))

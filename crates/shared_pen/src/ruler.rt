@@ -1,7 +1,6 @@
 // A ruler measures what a pen would write. Past the largest number it stays there.
 ghost use Rattle.std.specs.Prelude.{◌≡◌, length};
 ghost use Rattle.shared.specs.Tokens.{numeral};
-ghost use Rattle.shared_text.specs.Events.{Event};
 ghost use Rattle.shared_pen.specs.Pens.{head_text, end_text};
 ghost use Rattle.shared_pen.specs.Rules.{measured, ruled_byte, ruled_event};
 

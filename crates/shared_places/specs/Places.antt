@@ -13,8 +13,8 @@ pub record Placed (z : Sizes) (hash : Hash) (k : Part) (p : Places) : Type 0 whe
   pub b : p.b ≡ (edge z hash k).1
   pub low_first : p.first < z.buckets
   pub low_second : p.second < z.buckets
-  pub low-a : p.a < z.a
-  pub low-b : p.b < z.a + z.b
+  pub low_a : p.a < z.a
+  pub low_b : p.b < z.a + z.b
 
 -- the other of the two buckets
 abbrev pub other_of : Places → ℕ → ℕ

@@ -32,7 +32,7 @@ module _ (z : Sizes) (hash : Hash) (k : Part) (rowa rowb : List ℕ) (places : P
   edge-bit : bit_of (row_of z.a rowa rowb) (edge z hash k) ≡ lit rowa places.a ⊕ lit rowb (places.b - z.a)
   edge-bit =
       ap₂ (λ (x y : ℕ). row_of z.a rowa rowb x ⊕ row_of z.a rowa rowb y) (sym placed.a) (sym placed.b)
-      ∙ ap₂ ◌⊕◌ (cond-true (ltb places.a z.a) _ _ (lt-ltb places.a z.a placed.low-a))
+      ∙ ap₂ ◌⊕◌ (cond-true (ltb places.a z.a) _ _ (lt-ltb places.a z.a placed.low_a))
       (cond-false (ltb places.b z.a) _ _ (le-ltb places.b z.a (omega (arith, placed.b))))
 
   chosen : choose z hash (row_of z.a rowa rowb) k ≡ cond (lit rowa places.a ⊕ lit rowb (places.b - z.a)) places.second places.first

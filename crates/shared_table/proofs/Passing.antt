@@ -7,7 +7,7 @@ use Rattle.shared.specs.Graph.{◌⊕◌}
 use Rattle.shared.specs.Lists.{memb, apart, all_below, at2}
 use Rattle.shared.specs.Notice.{Setting, Step, bucket, single}
 use Rattle.shared.specs.Table.{Table, applied, applied_all, within}
-use Rattle.shared_text.specs.Events.{Event, rowB, flip, end_bucket, step_events, events_of}
+use Rattle.shared_text.specs.Events.{Event, row_b, flip, end_bucket, step_events, events_of}
 use Rattle.shared_table.specs.Passes.{seed_put, setting_put, place_turned, Midst, place_in, event_done, events_done, shaped, FourSlots, EventsApply}
 use Rattle.shared_table.proofs.Views.{same_table, same_place}
 
@@ -133,7 +133,7 @@ module _ (z : Sizes) where
         let at_b : Midst = record { table = turn_all t false pa; current = j; second = true } in
         let r1 = turn_rest t false pa in
         let r2 = turn_rest (turn_all t false pa) true pb in
-        ap (λ (x : Midst). x.table) (flips-done at_a pa (rowB ∷ (map flip pb ++ (end_bucket ∷ []))) ∙ flips-done at_b pb (end_bucket ∷ []))
+        ap (λ (x : Midst). x.table) (flips-done at_a pa (row_b ∷ (map flip pb ++ (end_bucket ∷ []))) ∙ flips-done at_b pb (end_bucket ∷ []))
         ∙ same_table _ _
         (λ p q. ap (λ (f : ℕ → ℕ → Setting). f p q) (r2.0 ∙ r1.0) ∙ four-put m.table.setting blank four a b c d j p q)
         (both-rows t pa pb low ha hb)

@@ -48,45 +48,45 @@ module _ (seeds : List ℕ) (over : List Entry) (m : Matched seeds over) where
       ]
 
   -- A field and the entries are written: what they now say of bucket j suffices.
-  module _ (seeds_after : List ℕ) (overAfter : List Entry) (j v s : ℕ) (is : seeds_after ≡ put_field seeds j (cond (ltb s 31) s 31)) (w : Written seeds seeds_after j v)
-      (seeds-same : (k : ℕ) → k ≢ j → seed_in overAfter k ≡ seed_in over k) (times-same : (k : ℕ) → k ≢ j → times overAfter k ≡ times over k)
-      (long : length overAfter ≡ length over) (count : used_in overAfter + times over j ≡ used_in over + one (ltb 30 s)) where
+  module _ (seeds_after : List ℕ) (over_after : List Entry) (j v s : ℕ) (is : seeds_after ≡ put_field seeds j (cond (ltb s 31) s 31)) (w : Written seeds seeds_after j v)
+      (seeds-same : (k : ℕ) → k ≢ j → seed_in over_after k ≡ seed_in over k) (times-same : (k : ℕ) → k ≢ j → times over_after k ≡ times over k)
+      (long : length over_after ≡ length over) (count : used_in over_after + times over j ≡ used_in over + one (ltb 30 s)) where
     all : (P : ℕ → Type 0) → P j → ((k : ℕ) → k ≢ j → P k) → (k : ℕ) → P k
     all P here there k = elim (cases_eq k j) [ inl e ↦ subst P (sym e) here | inr d ↦ there k d ]
 
     same_field : (k : ℕ) → k ≢ j → field_of seeds_after k ≡ field_of seeds k
     same_field k ne = field_other seeds seeds_after j v k w ne
 
-    set-by : seed_of seeds_after overAfter j ≡ s → times overAfter j ≡ one (eqb (field_of seeds_after j) 31) → (field_of seeds_after j ≡ 31 → 30 < seed_in overAfter j)
-        → SeedSet seeds over seeds_after overAfter j s
+    set-by : seed_of seeds_after over_after j ≡ s → times over_after j ≡ one (eqb (field_of seeds_after j) 31) → (field_of seeds_after j ≡ 31 → 30 < seed_in over_after j)
+        → SeedSet seeds over seeds_after over_after j s
     set-by seed entry high = record {
       bytes = is;
-      seed = fun_ext (all (λ k. seed_of seeds_after overAfter k ≡ at (seed_of seeds over) j s k)
+      seed = fun_ext (all (λ k. seed_of seeds_after over_after k ≡ at (seed_of seeds over) j s k)
           (seed ∙ sym (at_same (seed_of seeds over) j s))
           (λ k ne. ap₂ (λ (f x : ℕ). cond (eqb f 31) x f) (same_field k ne) (seeds-same k ne) ∙ sym (at_other (seed_of seeds over) j s k ne)));
       matched = record {
-        entry = all (λ k. times overAfter k ≡ one (eqb (field_of seeds_after k) 31)) entry
+        entry = all (λ k. times over_after k ≡ one (eqb (field_of seeds_after k) 31)) entry
             (λ k ne. times-same k ne ∙ m.entry k ∙ ap (λ (f : ℕ). one (eqb f 31)) (sym (same_field k ne)));
-        high = all (λ k. field_of seeds_after k ≡ 31 → 30 < seed_in overAfter k) high
+        high = all (λ k. field_of seeds_after k ≡ 31 → 30 < seed_in over_after k) high
             (λ k ne e. omega (arith, m.high k (sym (same_field k ne) ∙ e), seeds-same k ne));
       };
       count = omega (arith, entry_high j, count);
       long = long;
     }
 
-  pub set-low : (seeds_after : List ℕ) (overAfter : List Entry) (j s : ℕ) → s < 31 → seeds_after ≡ put_field seeds j s → Written seeds seeds_after j s → Freed over overAfter j
-      → SeedSet seeds over seeds_after overAfter j s
-  set-low seeds_after overAfter j s h is w f =
+  pub set-low : (seeds_after : List ℕ) (over_after : List Entry) (j s : ℕ) → s < 31 → seeds_after ≡ put_field seeds j s → Written seeds seeds_after j s → Freed over over_after j
+      → SeedSet seeds over seeds_after over_after j s
+  set-low seeds_after over_after j s h is w f =
       let no : eqb (field_of seeds_after j) 31 ≡ false = ne_eqb (field_of seeds_after j) 31 (λ e. omega (arith, w.field)) in
-      set-by seeds_after overAfter j s s (is ∙ ap (put_field seeds j) (sym (cond-true (ltb s 31) s 31 (lt-ltb s 31 h)))) w f.seeds f.others f.long
+      set-by seeds_after over_after j s s (is ∙ ap (put_field seeds j) (sym (cond-true (ltb s 31) s 31 (lt-ltb s 31 h)))) w f.seeds f.others f.long
       (omega (arith, f.count, ap one (le-ltb 30 s (omega arith))))
       (cond-false (eqb (field_of seeds_after j) 31) _ _ no ∙ w.field) (f.none ∙ sym (ap one no)) (λ e. absurd (omega (arith, w.field)))
 
-  pub set-high : (seeds_after : List ℕ) (overAfter : List Entry) (j s : ℕ) → 31 ≤ s → seeds_after ≡ put_field seeds j 31 → Written seeds seeds_after j 31 → Put over overAfter j s
-      → SeedSet seeds over seeds_after overAfter j s
-  set-high seeds_after overAfter j s h is w f =
+  pub set-high : (seeds_after : List ℕ) (over_after : List Entry) (j s : ℕ) → 31 ≤ s → seeds_after ≡ put_field seeds j 31 → Written seeds seeds_after j 31 → Put over over_after j s
+      → SeedSet seeds over seeds_after over_after j s
+  set-high seeds_after over_after j s h is w f =
       let yes : eqb (field_of seeds_after j) 31 ≡ true = eq-eqb (field_of seeds_after j) 31 w.field in
-      set-by seeds_after overAfter j 31 s (is ∙ ap (put_field seeds j) (sym (cond-false (ltb s 31) s 31 (le-ltb s 31 h)))) w f.seeds f.others f.long
+      set-by seeds_after over_after j 31 s (is ∙ ap (put_field seeds j) (sym (cond-false (ltb s 31) s 31 (le-ltb s 31 h)))) w f.seeds f.others f.long
       (omega (arith, f.count, ap one (lt-ltb 30 s (omega arith))))
       (cond-true (eqb (field_of seeds_after j) 31) _ _ yes ∙ f.seed) (f.once ∙ sym (ap one yes)) (λ e. omega (arith, f.seed))
 
@@ -111,10 +111,10 @@ entries_at f j s i (suc n) l h =
           omega (arith, here, entries_at f j s (suc i) n (omega arith) (omega arith))
     ]
 
-pub sound_after : (n : ℕ) (seeds : List ℕ) (over : List Entry) (seeds_after : List ℕ) (overAfter : List Entry) (j s : ℕ) → j < n
-    → Sound n seeds over → SeedSet seeds over seeds_after overAfter j s → Sound n seeds_after overAfter
-sound_after n seeds over seeds_after overAfter j s h sound done =
-    let same : entries (seed_of seeds_after overAfter) (up_from 0 n) ≡ entries (at (seed_of seeds over) j s) (up_from 0 n) = ap (λ (f : ℕ → ℕ). entries f (up_from 0 n)) done.seed in
+pub sound_after : (n : ℕ) (seeds : List ℕ) (over : List Entry) (seeds_after : List ℕ) (over_after : List Entry) (j s : ℕ) → j < n
+    → Sound n seeds over → SeedSet seeds over seeds_after over_after j s → Sound n seeds_after over_after
+sound_after n seeds over seeds_after over_after j s h sound done =
+    let same : entries (seed_of seeds_after over_after) (up_from 0 n) ≡ entries (at (seed_of seeds over) j s) (up_from 0 n) = ap (λ (f : ℕ → ℕ). entries f (up_from 0 n)) done.seed in
     record {
       matched = done.matched;
       count = omega (arith, done.count, sound.count, same, entries_at (seed_of seeds over) j s 0 n (omega arith) (omega arith));

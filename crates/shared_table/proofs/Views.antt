@@ -27,9 +27,9 @@ long_from z m e =
     let d = and_parts (eqb (length m.seeds) ((5 * z.buckets + 7) / 8)) _ c.1 in
     record {
       long_settings = eqb-true _ _ a.0;
-      long-rowa = eqb-true _ _ b.0;
-      long-rowb = eqb-true _ _ c.0;
-      long-seeds = eqb-true _ _ d.0;
+      long_rowa = eqb-true _ _ b.0;
+      long_rowb = eqb-true _ _ c.0;
+      long_seeds = eqb-true _ _ d.0;
       long_over = eqb-true _ _ d.1;
     }
 

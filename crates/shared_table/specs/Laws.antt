@@ -38,8 +38,8 @@ FlipBShown {S} numbers blank =
 -- a seed set keeps the overflow entries sound; the other writes leave both seeds and entries alone
 abbrev pub SoundKept : Type 0
 SoundKept =
-    (n : ℕ) (seeds : List ℕ) (over : List Entry) (seeds_after : List ℕ) (overAfter : List Entry) (j s : ℕ) → j < n →
-    Sound n seeds over → SeedSet seeds over seeds_after overAfter j s → Sound n seeds_after overAfter
+    (n : ℕ) (seeds : List ℕ) (over : List Entry) (seeds_after : List ℕ) (over_after : List Entry) (j s : ℕ) → j < n →
+    Sound n seeds over → SeedSet seeds over seeds_after over_after j s → Sound n seeds_after over_after
 
 -- cleared memory shows the fresh table, and is sound
 abbrev pub ClearedFresh : {S : Type 0} → (S → List ℕ) → Setting → Type 0
@@ -51,8 +51,8 @@ ClearedFresh {S} numbers blank =
 pub record TableLaws {S : Type 0} (numbers : S → List ℕ) (blank : Setting) : Type 0 where
   pub seeds : SeedShown numbers blank
   pub settings : SettingShown numbers blank
-  pub flips-a : FlipAShown numbers blank
-  pub flips-b : FlipBShown numbers blank
+  pub flips_a : FlipAShown numbers blank
+  pub flips_b : FlipBShown numbers blank
   pub sound : SoundKept
   pub fresh : ClearedFresh numbers blank
   -- memory shows nothing past the fourth slot, as the last law asks

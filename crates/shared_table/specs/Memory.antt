@@ -35,9 +35,9 @@ fits z m =
 -- the same by name
 pub record Long {S : Type 0} (z : Sizes) (settings : List S) (rowa rowb seeds : List ℕ) (over : List Entry) : Type 0 where
   pub long_settings : length settings ≡ 4 * z.buckets
-  pub long-rowa : length rowa ≡ (z.a + 7) / 8
-  pub long-rowb : length rowb ≡ (z.b + 7) / 8
-  pub long-seeds : length seeds ≡ (5 * z.buckets + 7) / 8
+  pub long_rowa : length rowa ≡ (z.a + 7) / 8
+  pub long_rowb : length rowb ≡ (z.b + 7) / 8
+  pub long_seeds : length seeds ≡ (5 * z.buckets + 7) / 8
   pub long_over : length over ≡ z.overflow
 
 -- the seed of bucket j: its field, or its overflow entry's where the field is 31
@@ -73,12 +73,12 @@ pub record Sound (n : ℕ) (seeds : List ℕ) (over : List Entry) : Type 0 where
 
 -- Bucket j has the seed s, and all other seeds are as before: the field's bits are written and no others, and the entries
 -- match again, one more or one fewer as the seed asks.
-pub record SeedSet (seeds : List ℕ) (over : List Entry) (seeds_after : List ℕ) (overAfter : List Entry) (j s : ℕ) : Type 0 where
+pub record SeedSet (seeds : List ℕ) (over : List Entry) (seeds_after : List ℕ) (over_after : List Entry) (j s : ℕ) : Type 0 where
   pub bytes : seeds_after ≡ put_field seeds j (cond (nat_lt s 31) s 31)
-  pub seed : seed_of seeds_after overAfter ≡ at (seed_of seeds over) j s
-  pub matched : Matched seeds_after overAfter
-  pub count : used_in overAfter + one (nat_lt 30 (seed_of seeds over j)) ≡ used_in over + one (nat_lt 30 s)
-  pub long : length overAfter ≡ length over
+  pub seed : seed_of seeds_after over_after ≡ at (seed_of seeds over) j s
+  pub matched : Matched seeds_after over_after
+  pub count : used_in over_after + one (nat_lt 30 (seed_of seeds over j)) ≡ used_in over + one (nat_lt 30 s)
+  pub long : length over_after ≡ length over
 
 -- memory of the same lengths with every byte 0, every entry unused, and one setting everywhere
 abbrev pub cleared : {S : Type 0} → S → Memory S → Memory S

@@ -5,7 +5,7 @@ use Rattle.shared.specs.Graph.{flipped}
 use Rattle.shared.specs.Lists.{apart, at, at2}
 use Rattle.shared.specs.Notice.{Setting, Step, bucket, single}
 use Rattle.shared.specs.Table.{Table, within, applied_all}
-use Rattle.shared_text.specs.Events.{Event, begin_bucket, setting_at, rowA, rowB, flip, end_bucket, slot_step, events_of}
+use Rattle.shared_text.specs.Events.{Event, begin_bucket, setting_at, row_a, row_b, flip, end_bucket, slot_step, events_of}
 
 -- One write to a table: a bucket's seed, a slot's setting, a place turned over.
 abbrev pub seed_put : Table → ℕ → ℕ → Table
@@ -32,8 +32,8 @@ module _ (z : Sizes) where
   abbrev pub event_done : Midst → Event → Midst
   event_done m (begin_bucket j s) = record { table = seed_put m.table j s; current = j; second = m.second }
   event_done m (setting_at i v) = record { table = setting_put m.table m.current i v; current = m.current; second = m.second }
-  event_done m rowA = record { table = m.table; current = m.current; second = false }
-  event_done m rowB = record { table = m.table; current = m.current; second = true }
+  event_done m row_a = record { table = m.table; current = m.current; second = false }
+  event_done m row_b = record { table = m.table; current = m.current; second = true }
   event_done m (flip p) = record { table = place_turned m.table (place_in z m.second p); current = m.current; second = m.second }
   event_done m end_bucket = m
   event_done m (slot_step j i v) = record { table = setting_put m.table j i v; current = m.current; second = m.second }

@@ -5,7 +5,7 @@ use Rattle.shared.specs.Notice.{Setting, Step, bucket, single}
 pub data Event : Type 0 where
   begin_bucket : (j s : ℕ) → Event
   setting_at : (i : ℕ) (v : Setting) → Event
-  rowA rowB : Event
+  row_a row_b : Event
   flip : (p : ℕ) → Event
   end_bucket : Event
   slot_step : (j i : ℕ) (v : Setting) → Event
@@ -16,7 +16,7 @@ settings_from i [] = []
 settings_from i (v ∷ vs) = setting_at i v ∷ settings_from (suc i) vs
 
 abbrev pub step_events : Step → List Event
-step_events (bucket j s vs pa pb) = begin_bucket j s ∷ (settings_from 0 vs ++ (rowA ∷ (map flip pa ++ (rowB ∷ (map flip pb ++ (end_bucket ∷ []))))))
+step_events (bucket j s vs pa pb) = begin_bucket j s ∷ (settings_from 0 vs ++ (row_a ∷ (map flip pa ++ (row_b ∷ (map flip pb ++ (end_bucket ∷ []))))))
 step_events (single j i v) = slot_step j i v ∷ []
 
 abbrev pub events_of : List Step → List Event

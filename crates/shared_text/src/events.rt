@@ -1,7 +1,7 @@
 // What a pass over a notice's steps sees, piece by piece, in the order of its text. No step is stored: a step may list as many
 // places as the rows have, and a device has no room for that.
 ghost use Rattle.std.specs.Prelude.{◌≡◌};
-ghost use Rattle.shared_text.specs.Events.{Event, begin_bucket, setting_at, rowA, rowB, flip, end_bucket, slot_step};
+ghost use Rattle.shared_text.specs.Events.{Event, begin_bucket, setting_at, row_a, row_b, flip, end_bucket, slot_step};
 
 use shared::kinds::SettingKind;
 
@@ -19,11 +19,11 @@ pub trait StepVisitor {
 
     // The flipped places of row a follow, ascending.
     fn row_a(&mut self)
-        ensures { self.new ≡ after self.old rowA };
+        ensures { self.new ≡ after self.old row_a };
 
     // The flipped places of row b follow, ascending.
     fn row_b(&mut self)
-        ensures { self.new ≡ after self.old rowB };
+        ensures { self.new ≡ after self.old row_b };
 
     // A flipped place of the row that was named last.
     fn flip(&mut self, place: u16)

@@ -8,7 +8,7 @@ use Rattle.shared.specs.Notice.{Setting, Step, bucket, single}
 use Rattle.shared.specs.Table.{within}
 use Rattle.shared_table.specs.Passes.{shaped}
 use Rattle.shared_text.proofs.Folds.{folded_append}
-use Rattle.shared_text.specs.Events.{Event, begin_bucket, rowA, rowB, flip, end_bucket, slot_step, settings_from, step_events, events_of}
+use Rattle.shared_text.specs.Events.{Event, begin_bucket, row_a, row_b, flip, end_bucket, slot_step, settings_from, step_events, events_of}
 use Rattle.take_digest.specs.declared.digest.Digest.{Digest}
 use Rattle.take_digest.specs.declared.digest.Head.{Head}
 use Rattle.take_digest.specs.declared.digest.Write.{Write}
@@ -149,8 +149,8 @@ module _ (z : Sizes) where
       let d5 : Digest = on_row d4 true in
       let last : List Event = end_bucket ∷ [] in
       let is : fold digested d (step_events (bucket j s vs pa pb)) ≡ fold digested d5 (map flip pb) =
-      folded_append digested d1 (settings_from 0 vs) (rowA ∷ (map flip pa ++ (rowB ∷ (map flip pb ++ last))))
-      ∙ folded_append digested d3 (map flip pa) (rowB ∷ (map flip pb ++ last))
+      folded_append digested d1 (settings_from 0 vs) (row_a ∷ (map flip pa ++ (row_b ∷ (map flip pb ++ last))))
+      ∙ folded_append digested d3 (map flip pa) (row_b ∷ (map flip pb ++ last))
       ∙ folded_append digested d5 (map flip pb) last in
       let n1 = note_test (on_bucket (with_head d (whole_head j s)) j) (ltb j d.sizes.buckets && ltb s 256) (ltb j z.buckets && ltb s 256)
       (ap (λ (y : Sizes). ltb j y.buckets && ltb s 256) n.sizes) (note_bucket _ j (note_head d (whole_head j s) n l)) in

@@ -1,7 +1,7 @@
 -- What a digest is after each piece of a notice.
 use Rattle.std.specs.Prelude.{ℕ, ◌+◌, Bool, true, false, cond, ◌&&◌, nat_lt, slice_index, slice_set}
 use Rattle.shared.specs.Notice.{Setting}
-use Rattle.shared_text.specs.Events.{Event, begin_bucket, setting_at, rowA, rowB, flip, end_bucket, slot_step}
+use Rattle.shared_text.specs.Events.{Event, begin_bucket, setting_at, row_a, row_b, flip, end_bucket, slot_step}
 use Rattle.take_digest.specs.declared.digest.Digest.{Digest}
 use Rattle.take_digest.specs.declared.digest.Head.{Head}
 use Rattle.take_digest.specs.declared.digest.Write.{Write}
@@ -44,8 +44,8 @@ on_row d b = record { sizes = d.sizes; heads = d.heads; steps = d.steps; writes 
 abbrev pub digested : Digest → Event → Digest
 digested d (begin_bucket j s) = judging (on_bucket (with_head d (whole_head j s)) j) (nat_lt j d.sizes.buckets && nat_lt s 256)
 digested d (setting_at i v) = with_write d (write_of d.current i v)
-digested d rowA = on_row d false
-digested d rowB = on_row d true
+digested d row_a = on_row d false
+digested d row_b = on_row d true
 digested d (flip p) = judging d (nat_lt p (cond d.beyond d.sizes.b d.sizes.a))
 digested d end_bucket = d
 digested d (slot_step j i v) = judging (with_write (with_head d (slot_head j)) (write_of j i v)) (nat_lt j d.sizes.buckets && nat_lt i 4)

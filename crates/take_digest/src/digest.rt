@@ -1,6 +1,6 @@
 // The pass that makes a digest. A notice has at most five steps and twenty settings, so these fit fixed arrays; the flipped
 // places, of which there may be many, are only judged.
-ghost use Rattle.std.specs.Prelude.{◌≡◌, true, length};
+ghost use Rattle.std.specs.Prelude.{◌≡◌, true};
 ghost use Rattle.shared_notice.specs.Walks.{kind_of};
 ghost use Rattle.take_digest.specs.Digests.{write_of, with_head, with_write, digested};
 ghost use Rattle.take_digest.specs.Shows.{Empty, DigestRead};

@@ -7,7 +7,7 @@ use Rattle.shared_bits.specs.Bits.{flip_at}
 use Rattle.shared_notice.specs.Walks.{passed, with_number}
 use Rattle.shared_notice.proofs.Passes.{pass_seen}
 use Rattle.shared_text.proofs.Folds.{folded_append}
-use Rattle.shared_text.specs.Events.{Event, rowB, flip, end_bucket, settings_from, step_events, events_of}
+use Rattle.shared_text.specs.Events.{Event, row_b, flip, end_bucket, settings_from, step_events, events_of}
 use Rattle.take_places.specs.declared.Flipper.{Flipper}
 use Rattle.take_places.specs.Flips.{flip_all, flipped_a, flipped_b, flipper_on, flipping}
 
@@ -33,7 +33,7 @@ module _ (f : Flipper) where
   turn_steps a b beyond [] = (beyond, refl)
   turn_steps a b beyond (bucket j s vs pa pb ∷ ss) =
       let rest = turn_steps (flip_all a pa) (flip_all b pb) true ss in
-      let behind : List Event = rowB ∷ (map flip pb ++ (end_bucket ∷ [])) in (
+      let behind : List Event = row_b ∷ (map flip pb ++ (end_bucket ∷ [])) in (
         rest.0,
         folded_append flipping (flipper_on f a b beyond) (step_events (bucket j s vs pa pb)) (events_of ss)
             ∙ ap (λ (g : Flipper). fold flipping g (events_of ss))

@@ -2,7 +2,7 @@
 use Rattle.std.specs.Prelude.{ℕ, Bool, true, false, cond, List, [], ◌∷◌}
 use Rattle.shared.specs.Notice.{Step, bucket, single}
 use Rattle.shared_bits.specs.Bits.{flip_at}
-use Rattle.shared_text.specs.Events.{Event, begin_bucket, setting_at, rowA, rowB, flip, end_bucket, slot_step}
+use Rattle.shared_text.specs.Events.{Event, begin_bucket, setting_at, row_a, row_b, flip, end_bucket, slot_step}
 use Rattle.take_places.specs.declared.Flipper.{Flipper}
 
 -- one place after the other turned over
@@ -33,8 +33,8 @@ flipper_on f a b beyond = record {
 abbrev pub flipping : Flipper → Event → Flipper
 flipping f (begin_bucket j s) = f
 flipping f (setting_at i v) = f
-flipping f rowA = flipper_on f f.rowa.now f.rowb.now false
-flipping f rowB = flipper_on f f.rowa.now f.rowb.now true
+flipping f row_a = flipper_on f f.rowa.now f.rowb.now false
+flipping f row_b = flipper_on f f.rowa.now f.rowb.now true
 flipping f (flip p) = cond f.beyond (flipper_on f f.rowa.now (flip_at f.rowb.now p) f.beyond) (flipper_on f (flip_at f.rowa.now p) f.rowb.now f.beyond)
 flipping f end_bucket = f
 flipping f (slot_step j i v) = f

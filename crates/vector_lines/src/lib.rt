@@ -1,7 +1,7 @@
 // What the program `vectors` answers: a hash for each line that asks for one.
 #![tactic(auto)]
 
-ghost use Rattle.std.specs.Prelude.{◌≡◌, ◌%◌, [], ◌∷◌, ◌++◌, OnOk};
+ghost use Rattle.std.specs.Prelude.{◌≡◌, ◌%◌, [], ◌++◌, OnOk};
 ghost use Rattle.shared.specs.Answers.{optional};
 ghost use Rattle.vector_lines.specs.Lines.{part_hash, family_hash, line_hash, hex_digit, hex_digits, line_text, text_of_lines};
 

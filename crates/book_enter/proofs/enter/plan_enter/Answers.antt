@@ -26,7 +26,7 @@ returns-then-joins_already g c =
     let k = bytes c.args.part in
     let v = numbers c.args.setting in
     let new : is_found (where_is z b.slot k) ≡ false = sym (ap is_found c.in_default.ensures.is) in
-    let stand : parts_of z b ≡ parts bytes slots = standing-parts bytes numbers z slots c.requires.kept.long-slots in
+    let stand : parts_of z b ≡ parts bytes slots = standing-parts bytes numbers z slots c.requires.kept.long_slots in
     let joined = ap (λ (ps : List Part). joins (map (edge z hash) ps) (edge z hash k).0 (edge z hash k).1) stand ∙ sym c.joins_already.ensures in
     record { is = enter_joined z hash kind b c.args.room k v new (joined ∙ c.if-joins_already.true); turned = refl }
 
@@ -42,7 +42,7 @@ returns-in-Err g c =
     let k = bytes c.args.part in
     let v = numbers c.args.setting in
     let new : is_found (where_is z b.slot k) ≡ false = sym (ap is_found c.in_default.ensures.is) in
-    let stand : parts_of z b ≡ parts bytes slots = standing-parts bytes numbers z slots c.requires.kept.long-slots in
+    let stand : parts_of z b ≡ parts bytes slots = standing-parts bytes numbers z slots c.requires.kept.long_slots in
     let joined = ap (λ (ps : List Part). joins (map (edge z hash) ps) (edge z hash k).0 (edge z hash k).1) stand ∙ sym c.joins_already.ensures in
     let planned = enter_planned z hash kind b c.args.room k v new (joined ∙ c.if-joins_already.false) in
     record { is = ap (by_plan z hash kind b c.args.room k v) c.in-Err.ensures.is ∙ planned; turned = c.in-Err.ensures.sure }
@@ -59,7 +59,7 @@ returns-then-spills_over g c =
     let k = bytes c.args.part in
     let v = numbers c.args.setting in
     let new : is_found (where_is z b.slot k) ≡ false = sym (ap is_found c.in_default.ensures.is) in
-    let stand : parts_of z b ≡ parts bytes slots = standing-parts bytes numbers z slots c.requires.kept.long-slots in
+    let stand : parts_of z b ≡ parts bytes slots = standing-parts bytes numbers z slots c.requires.kept.long_slots in
     let joined = ap (λ (ps : List Part). joins (map (edge z hash) ps) (edge z hash k).0 (edge z hash k).1) stand ∙ sym c.joins_already.ensures in
     let planned = enter_planned z hash kind b c.args.room k v new (joined ∙ c.if-joins_already.false) in
     let plan = c.in-Ok.plan in
@@ -73,13 +73,13 @@ turn_places-requires g c =
     let z = c.args.sizes in
     let row = row_of z.a c.args.row_a.now c.args.row_b.now in
     let first = c.load_rows.new.words in
-    let long : length first ≡ z.a + z.b = omega (arith, c.load_rows.auto.words, c.requires.cut.long-words) in
+    let long : length first ≡ z.a + z.b = omega (arith, c.load_rows.auto.words, c.requires.cut.long_words) in
     record {
-      slots = c.requires.kept.long-slots;
+      slots = c.requires.kept.long_slots;
       fit = c.in-Ok.ensures.sure.fit;
       cached = c.cache_ends.ensures;
-      kept = (c.requires.cut.long-ka ∙ sym c.requires.kept.long-slots, c.requires.cut.long-kb ∙ sym c.requires.kept.long-slots);
-      long = (omega (arith, c.joins_already.auto.marks, c.requires.cut.long-marks), long);
+      kept = (c.requires.cut.long_ka ∙ sym c.requires.kept.long_slots, c.requires.cut.long_kb ∙ sym c.requires.kept.long_slots);
+      long = (omega (arith, c.joins_already.auto.marks, c.requires.cut.long_marks), long);
       bits = loaded_bits (z.a + z.b) row first long c.load_rows.ensures;
     }
 
@@ -95,7 +95,7 @@ returns-then-notice_length-room g c =
     let k = bytes c.args.part in
     let v = numbers c.args.setting in
     let new : is_found (where_is z b.slot k) ≡ false = sym (ap is_found c.in_default.ensures.is) in
-    let stand : parts_of z b ≡ parts bytes slots = standing-parts bytes numbers z slots c.requires.kept.long-slots in
+    let stand : parts_of z b ≡ parts bytes slots = standing-parts bytes numbers z slots c.requires.kept.long_slots in
     let joined = ap (λ (ps : List Part). joins (map (edge z hash) ps) (edge z hash k).0 (edge z hash k).1) stand ∙ sym c.joins_already.ensures in
     let planned = enter_planned z hash kind b c.args.room k v new (joined ∙ c.if-joins_already.false) in
     let plan = c.in-Ok.plan in
@@ -104,7 +104,7 @@ returns-then-notice_length-room g c =
     let spilt = sym (c.spills_over.ensures b.slot (k, v)) in
     let row = row_of z.a c.args.row_a.now c.args.row_b.now in
     let first = c.load_rows.new.words in
-    let long : length first ≡ z.a + z.b = omega (arith, c.load_rows.auto.words, c.requires.cut.long-words) in
+    let long : length first ≡ z.a + z.b = omega (arith, c.load_rows.auto.words, c.requires.cut.long_words) in
     let own = turned-words z hash kind.blank (parts_of z b) b plan (k, v) c.turn_places.new.words first (parts bytes slots) stand (loaded_words (z.a + z.b) row first long c.load_rows.ensures) c.turn_places.ensures in
     let len = length-outcome z hash kind.blank (parts_of z b) b plan (k, v) c.turn_places.new.words kind c.notice_length.result (c.notice_length.ensures kind) own in
     record { is = by_room z hash kind b c.args.room k v ps (spilt ∙ c.if-spills_over.false) (subst (λ (n : ℕ). c.args.room < n) len c.if-notice_length-room.true) ∙ found; turned = refl }
@@ -121,7 +121,7 @@ returns g c =
     let k = bytes c.args.part in
     let v = numbers c.args.setting in
     let new : is_found (where_is z b.slot k) ≡ false = sym (ap is_found c.in_default.ensures.is) in
-    let stand : parts_of z b ≡ parts bytes slots = standing-parts bytes numbers z slots c.requires.kept.long-slots in
+    let stand : parts_of z b ≡ parts bytes slots = standing-parts bytes numbers z slots c.requires.kept.long_slots in
     let joined = ap (λ (ps : List Part). joins (map (edge z hash) ps) (edge z hash k).0 (edge z hash k).1) stand ∙ sym c.joins_already.ensures in
     let planned = enter_planned z hash kind b c.args.room k v new (joined ∙ c.if-joins_already.false) in
     let plan = c.in-Ok.plan in
@@ -130,7 +130,7 @@ returns g c =
     let spilt = sym (c.spills_over.ensures b.slot (k, v)) in
     let row = row_of z.a c.args.row_a.now c.args.row_b.now in
     let first = c.load_rows.new.words in
-    let long : length first ≡ z.a + z.b = omega (arith, c.load_rows.auto.words, c.requires.cut.long-words) in
+    let long : length first ≡ z.a + z.b = omega (arith, c.load_rows.auto.words, c.requires.cut.long_words) in
     let own = turned-words z hash kind.blank (parts_of z b) b plan (k, v) c.turn_places.new.words first (parts bytes slots) stand (loaded_words (z.a + z.b) row first long c.load_rows.ensures) c.turn_places.ensures in
     let len = length-outcome z hash kind.blank (parts_of z b) b plan (k, v) c.turn_places.new.words kind c.notice_length.result (c.notice_length.ensures kind) own in
     record {

@@ -68,7 +68,7 @@ returns g c =
     let tss = turns z hash kind.blank (parts_of z b) b.row ps in
     let written = c.in-Some.ensures kind in
     let seeds = c.store_seeds.ensures b.slot h in
-    let long : length words ≡ z.a + z.b = omega (arith, c.plan_enter.auto.words, c.requires.cut.long-words) in
+    let long : length words ≡ z.a + z.b = omega (arith, c.plan_enter.auto.words, c.requires.cut.long_words) in
     let rows = rows_after z.a z.b c.args.row_a.now c.args.row_b.now c.store_rows.new.row_a c.store_rows.new.row_b words tss long c.store_rows.ensures.a c.store_rows.ensures.b passed.own (turns-ranged z hash kind.blank (parts_of z b) ps b.row) in
     let shown = shown-outcome z hash kind.blank (parts_of z b) b plan h words passed.own in
     let number : c.args.number + 1 ≡ suc (played z hash kind.blank (parts_of z b) b ps).number = omega (arith, ap (λ (x : Book). x.number) (plays z hash kind.blank (parts_of z b) b ps)) in
@@ -78,10 +78,10 @@ returns g c =
           (call_done z hash kind b (enter h.0 h.1) buffer _ _ c.in-Ok.ensures.is (c.args.number + 1) c.in-Some.len c.write_notice.new.out number
           (written.0 ∙ ap (λ (ss : List Step). length (notice_bytes kind (c.args.number + 1) ss)) shown) (written.1 ∙ ap (λ (ss : List Step). notice_bytes kind (c.args.number + 1) ss ++ drop c.in-Some.len buffer) shown));
       kept = record {
-        long-slots = omega (arith, c.store_slots.auto.slots, c.requires.kept.long-slots);
-        long-rowa = omega (arith, c.store_rows.auto.row_a, c.requires.kept.long-rowa);
-        long-rowb = omega (arith, c.store_rows.auto.row_b, c.requires.kept.long-rowb);
-        long-seeds = omega (arith, c.store_seeds.auto.seeds, c.requires.kept.long-seeds);
+        long_slots = omega (arith, c.store_slots.auto.slots, c.requires.kept.long_slots);
+        long_rowa = omega (arith, c.store_rows.auto.row_a, c.requires.kept.long_rowa);
+        long_rowb = omega (arith, c.store_rows.auto.row_b, c.requires.kept.long_rowb);
+        long_seeds = omega (arith, c.store_seeds.auto.seeds, c.requires.kept.long_seeds);
         sound = seeds.sound;
       };
       slots = tt;

@@ -12,8 +12,8 @@ returns g c =
     record {
       seeds = seed_shown numbers blank;
       settings = setting_shown numbers blank;
-      flips-a = flip_a_shown numbers blank;
-      flips-b = flip_b_shown numbers blank;
+      flips_a = flip_a_shown numbers blank;
+      flips_b = flip_b_shown numbers blank;
       sound = sound_after;
       fresh = cleared-fresh numbers blank;
       four = four-shown numbers blank;
