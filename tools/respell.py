@@ -3,7 +3,8 @@
 the toolchain's port.py: definitions and lemmas in snake case, facts and other types in camel case, a prime as an apostrophe.
 
 A dash stays in a lemma's name where the part before it names a definition; elsewhere it becomes an underscore. Names of Rust code, of
-goals, of fields and of the library stay. Prints what it renamed, and stops before it writes where two names would fall together.
+goals and of the library stay; fields change where they stand behind no dot, and respell_rest.py turns what is left of them. With
+--write it writes; it prints what it renames, and without --write stops where two names would fall together.
 """
 import collections
 import glob
@@ -15,8 +16,6 @@ TOKEN = re.compile(r"[^\s(){}.,;`\"∷⌜⌝\[\]|]+")
 GENERATED = re.compile(r"use \S*proofs\S*\.(?:Goals|Given|Needs|Choices)\.\{([^}]*)\}")
 # words of the library that lemmas of ours are about
 LIBRARY = set("length take drop map append replicate cond eqb ltb leb add sub mul and or not getD slice_index get_or set min max".split())
-# library names of lemmas that ours share where both are in scope, and words that antt keeps
-KEEP = set()
 
 
 def snake(name):
@@ -55,7 +54,7 @@ def main():
         left.update(re.findall(r"(?<=[\w)'])\.([^\s(){}.,;]*-[^\s(){}.,;]*)", re.sub(r"^use .*$", "", t, flags=re.M)))
     new = {}
     for name in own:
-        if name in goals or name in KEEP:
+        if name in goals:
             continue
         if name in facts:
             if "-" in name and not name.startswith("Inv-"):
@@ -72,8 +71,7 @@ def main():
             to = out
         if to != name:
             new[name] = to
-    # a mixfix operator goes by its parts
-    operators = {n: n.replace("_", "◌") for n in own if n.startswith("_") and n.endswith("_")}
+    # a mixfix operator goes by hand: there is one
     for n in list(new):
         if n.startswith("_") or "◌" in n:
             del new[n]

@@ -56,9 +56,9 @@ impl PartNumber {
 impl PartKind for PartNumber {
     ghost bytes = { λ p. take p.len p.cells };
 
-    ghost some = { first_of (Prim.search rules, Prim.grind (arith, Self.row.coded.inj)) };
+    ghost some = { Prim.search rules };
 
-    ghost few = { first_of (Prim.search rules, Prim.grind (arith, Self.row.coded.inj)) };
+    ghost few = { Prim.search rules };
 
     ghost low = { λ p i. part_number-low (take p.len p.cells) p.allowed i };
 

@@ -32,13 +32,13 @@ impl Tag {
 impl PartKind for Tag {
     ghost bytes = { λ t. t.bytes };
 
-    ghost some = { first_of (Prim.search rules, Prim.grind (arith, Self.row.coded.inj)) };
+    ghost some = { Prim.search rules };
 
-    ghost few = { first_of (Prim.search rules, Prim.grind (arith, Self.row.coded.inj)) };
+    ghost few = { Prim.search rules };
 
-    ghost low = { first_of (Prim.search rules, Prim.grind (arith, Self.row.coded.inj)) };
+    ghost low = { Prim.search rules };
 
-    ghost apart = { first_of (Prim.search rules, Prim.grind (arith, Self.row.coded.inj)) };
+    ghost apart = { Prim.grind (arith, Self.row.coded.inj) };
 
     fn as_bytes(&self) -> &[u8] {
         &self.bytes
