@@ -1,26 +1,27 @@
 -- The moves of a chain as the code holds them.
-use Rattle.std.specs.Prelude.{ℕ, zero, suc, ◌<◌, true, false, List, [], ◌∷◌, Some, None, Option as CodeOption, slice_index}
+use Rattle.std.specs.Prelude.{◌≡◌, ℕ, ◌<◌, true, false, List, reverse, length, Some, None, Option as CodeOption, slice_index}
 use Rattle.std.proofs.Math.Option.{Option, none, some}
+use Rattle.arrayvec.specs.ArrayVec.{ArrayVec}
 use Rattle.shared.specs.declared.sizes.Sizes.{Sizes}
 use Rattle.shared.specs.Book.{Slot, other}
 use Rattle.shared.specs.Kinds.{Hash}
 use Rattle.shared.specs.Lists.{memb, ◌then◌}
 
--- where the part in slot i of bucket j can go: to its other bucket, unless that is seen already
-abbrev pub next_of : Sizes → Hash → (ℕ → ℕ → Slot) → ℕ → ℕ → List ℕ → Option ℕ
-next_of z hash slot j i seen = slot j i then (λ h. let o = other z hash h.0 j in elim (memb o seen) [ true ↦ none | false ↦ some o ])
+-- where the part in a slot of bucket j can go: to its other bucket, unless that is seen already
+abbrev pub next_of : Sizes → Hash → Slot → ℕ → List ℕ → Option ℕ
+next_of z hash slot j seen = slot then (λ h. let o = other z hash h.0 j in elim (memb o seen) [ true ↦ none | false ↦ some o ])
 
--- the first m numbers of a list, the last of them first
-unfoldable pub down_from : List ℕ → ℕ → List ℕ
-down_from xs zero = []
-down_from xs (suc m) = slice_index xs m ∷ down_from xs m
+-- the slots of the moves, the first move first
+abbrev pub path_of : CodeOption (ArrayVec ℕ) → Option (List ℕ)
+path_of (Some v) = some (reverse v.items)
+path_of None = none
 
--- the slots of m moves, the first move first
-abbrev pub path_of : ℕ → CodeOption (List ℕ) → Option (List ℕ)
-path_of m (Some xs) = some (down_from xs m)
-path_of m None = none
+-- m slots of buckets
+pub record Picks (is : List ℕ) (m : ℕ) : Type 0 where
+  pub many : length is ≡ m
+  pub low : (k : ℕ) → k < length is → slice_index is k < 4
 
--- what is found are slots of a bucket
-abbrev pub Picked : CodeOption (List ℕ) → Type 0
-Picked (Some xs) = (k : ℕ) → slice_index xs k < 4
-Picked None = Unit {0}
+-- what is found are the slots of m moves
+abbrev pub Picked : CodeOption (ArrayVec ℕ) → ℕ → Type 0
+Picked (Some v) m = Picks v.items m
+Picked None m = Unit {0}

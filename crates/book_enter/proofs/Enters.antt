@@ -1,6 +1,6 @@
 -- An enter goes by its plan.
 use Rattle.std.proofs.Common.{◌≡◌, ℕ, suc, ◌<◌, ◌≤◌, Bool, true, false, ltb, List, [], ◌∷◌, map, length, Ok, Err, Result, sym, refl, ap, ◌∙◌, ap₂}
-use mathlib.Core.Option.{Option, none, some}
+use Rattle.std.proofs.Math.Option.{Option, none, some}
 use Rattle.std.proofs.lemmas.Bool.{lt-ltb, le-ltb}
 use Rattle.shared.specs.declared.sizes.Sizes.{Sizes}
 use Rattle.shared.specs.Book.{Book, Outcome, refused, done, raised, unless, given, told, called, enter, where_is, chain, placed, book_after}
@@ -29,9 +29,6 @@ module _ (z : Sizes) (hash : Hash) (kind : Kind) (b : Book) (room : ℕ) (k : Pa
 
   abbrev pub joined_before : Bool
   joined_before = joins (map (edge z hash) (parts_of z b)) (edge z hash k).0 (edge z hash k).1
-
-  pub enter_stands : is_found (where_is z b.slot k) ≡ true → refused 5 ≡ called z hash kind b room (enter k v)
-  enter_stands e = sym (ap (λ (t : Bool). unless t 5 λ _. unless joined_before 8 λ _. chained) e)
 
   pub enter_joined : is_found (where_is z b.slot k) ≡ false → joined_before ≡ true → refused 8 ≡ called z hash kind b room (enter k v)
   enter_joined e f = sym (ap₂ (λ (t u : Bool). unless t 5 λ _. unless u 8 λ _. chained) e f)

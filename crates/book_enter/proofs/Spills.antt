@@ -1,5 +1,5 @@
 -- How many overflow entries are used after each placement.
-use Rattle.std.proofs.Common.{◌≡◌, ℕ, zero, suc, ◌+◌, ◌-◌, ◌<◌, ◌≤◌, Bool, true, false, cond, ◌||◌, ltb, List, [], ◌∷◌, ◌++◌, map, sym, refl, ap, ◌∙◌, arith}
+use Rattle.std.proofs.Common.{◌≡◌, ℕ, zero, suc, ◌+◌, ◌-◌, ◌<◌, ◌≤◌, Bool, true, false, cond, ◌||◌, ltb, List, [], ◌∷◌, ◌++◌, map, length, sym, refl, ap, ◌∙◌, arith}
 use Rattle.std.proofs.lemmas.Bool.{lt-ltb, le-ltb, or_parts}
 use Rattle.shared.specs.declared.sizes.Sizes.{Sizes}
 use Rattle.shared.specs.Lists.{at, up_from}
@@ -7,7 +7,11 @@ use Rattle.shared.specs.Table.{entries, entries_used, too_many}
 use Rattle.shared_overflow.specs.Overflow.{one}
 use Rattle.shared_table.proofs.SeedWrites.{entries_at}
 use Rattle.chain_laws.specs.Plans.{Placement, seeds_after, spills}
-use Rattle.chain_laws.proofs.Ranges.{up_more, up_none, map_last}
+use Rattle.shared.specs.Book.{Held, Slot}
+use Rattle.book_steps.specs.declared.plan.Placing.{Placing}
+use Rattle.book_steps.specs.Plans.{placing_at, placement_at, placements_of}
+use Rattle.book_enter.specs.Enters.{Sure}
+use Rattle.chain_laws.proofs.Ranges.{up_more, map_last}
 use Rattle.chain_laws.proofs.Tools.{at_other}
 
 seeds_more : (ps : List Placement) (p : Placement) (seed : ℕ → ℕ) → seeds_after seed (ps ++ (p ∷ [])) ≡ at (seeds_after seed ps) p.into p.seed
@@ -64,18 +68,37 @@ module _ (z : Sizes) (p : ℕ → Placement) (seed : ℕ → ℕ) (n : ℕ) wher
       ap (λ (l : List ℕ). spills z (upto i) (map p l)) (up_more i n h)
       ∙ ap (λ (f : ℕ → ℕ). too_many z f || spills z f (map p (up_from (i + 1) (n - (i + 1))))) (sym (upto-more i))
 
+  rest_over_lem : (i used : ℕ) → i < n → used ≡ entries_used z (upto (i + 1)) → z.overflow < used → rest_over i ≡ true
+  rest_over_lem i used h u over = rest_at i h ∙ ap (λ (b : Bool). b || rest_over (i + 1)) (lt-ltb z.overflow (entries_used z (upto (i + 1))) (omega arith))
+
+  rest-fits : (i used : ℕ) → i < n → used ≡ entries_used z (upto (i + 1)) → used ≤ z.overflow → rest_over i ≡ rest_over (i + 1)
+  rest-fits i used h u few = rest_at i h ∙ ap (λ (b : Bool). b || rest_over (i + 1)) (le-ltb z.overflow (entries_used z (upto (i + 1))) (omega arith))
+
   -- what fits to the end fits after the next
   pub rest-next : (i : ℕ) → i < n → rest_over i ≡ false → (too_many z (upto (i + 1)) ≡ false) × (rest_over (i + 1) ≡ false)
   rest-next i h e = or_parts (too_many z (upto (i + 1))) (rest_over (i + 1)) (sym (rest_at i h) ∙ e)
 
-  pub rest_over_lem : (i used : ℕ) → i < n → used ≡ entries_used z (upto (i + 1)) → z.overflow < used → rest_over i ≡ true
-  rest_over_lem i used h u over = rest_at i h ∙ ap (λ (b : Bool). b || rest_over (i + 1)) (lt-ltb z.overflow (entries_used z (upto (i + 1))) (omega arith))
+  -- before step i so many entries are used, and the rest of the steps tells whether any is over
+  pub record Counted (i used : ℕ) : Type 0 where
+    pub entries : used ≡ entries_used z (upto i)
+    pub rest : rest_over i ≡ spills z seed (map p (up_from 0 n))
 
-  pub rest-fits : (i used : ℕ) → i < n → used ≡ entries_used z (upto (i + 1)) → used ≤ z.overflow → rest_over i ≡ rest_over (i + 1)
-  rest-fits i used h u few = rest_at i h ∙ ap (λ (b : Bool). b || rest_over (i + 1)) (le-ltb z.overflow (entries_used z (upto (i + 1))) (omega arith))
+-- step i of a plan, into a bucket whose seed was `old`
+module _ (slot : ℕ → ℕ → Slot) (h : Held) {z : Sizes} {plan : List Placing} {seed : ℕ → ℕ} {i used old : ℕ} (sure : Sure z plan) (few : i < length plan) (is : old ≡ seed (placing_at plan i).bucket)
+    (c : Counted z (placement_at slot plan h) seed (length plan) i used) where
+  pub counted_some : one (ltb 30 old) ≤ used
+  counted_some = used_some z (placement_at slot plan h) seed (length plan) i used old (sure.fit.into i few) (λ k l. sure.apart k i l few) is c.entries
 
-  pub rest_end : (i : ℕ) → n ≤ i → rest_over i ≡ false
-  rest_end i h = ap (λ (l : List ℕ). spills z (upto i) (map p l)) (up_none i n h)
+  pub counted_few : used ≤ z.buckets
+  counted_few = omega (arith, c.entries, entries-few (upto z (placement_at slot plan h) seed (length plan) i) 0 z.buckets)
 
-  pub rest_all : rest_over 0 ≡ spills z seed (map p (up_from 0 n))
-  rest_all = let s : n - 0 ≡ n = omega arith in ap (λ (m : ℕ). spills z seed (map p (up_from 0 m))) s
+  module _ {next new : ℕ} (to : new ≡ (placing_at plan i).seed) (step : next + one (ltb 30 old) ≡ used + one (ltb 30 new)) where
+    counted_next : next ≡ entries_used z (upto z (placement_at slot plan h) seed (length plan) (i + 1))
+    counted_next =
+        used_more z (placement_at slot plan h) seed (length plan) i used next old (sure.fit.into i few) (λ k l. sure.apart k i l few) is c.entries (step ∙ ap (λ (s : ℕ). used + one (ltb 30 s)) to)
+
+    pub counted_over : z.overflow < next → true ≡ spills z seed (placements_of slot plan h)
+    counted_over over = sym (rest_over_lem z (placement_at slot plan h) seed (length plan) i next few counted_next over) ∙ c.rest
+
+    pub counted_more : next ≤ z.overflow → Counted z (placement_at slot plan h) seed (length plan) (i + 1) next
+    counted_more fits = record { entries = counted_next; rest = sym (rest-fits z (placement_at slot plan h) seed (length plan) i next few counted_next fits) ∙ c.rest }

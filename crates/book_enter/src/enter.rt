@@ -2,42 +2,38 @@
 ghost use Rattle.std.specs.Prelude.{◌≡◌, ◌+◌, ◌<◌, map, length};
 ghost use Rattle.shared.specs.Graph.{joins};
 ghost use Rattle.shared.specs.Table.{edge};
-ghost use Rattle.shared_notice.specs.Walks.{kind_of};
-ghost use Rattle.book_slots.specs.Slots.{parts};
+ghost use Rattle.shared_notice.specs.Walks.{text_kind};
+ghost use Rattle.book_slots.specs.Slots.{held_as, parts};
 ghost use Rattle.book_joined.specs.Ends.{Ends};
+ghost use Rattle.book_turns.specs.Spaces.{Cut, SameSpace};
 ghost use Rattle.book_enter.specs.Views.{book_of};
-ghost use Rattle.book_enter.specs.Enters.{Planned, Turned, Kept, Cut};
+ghost use Rattle.book_enter.specs.Enters.{Planned, Turned};
 
 use crate::along::plan_along;
-use crate::entries::spills_over;
-use crate::rows::load_rows;
+use crate::memory::Memory;
 use book_joined::{cache_ends, mark_joined};
 use book_notice::notice_length;
-use book_slots::{Slot, stands_at};
+use book_slots::{Held, Shelf};
 use book_steps::plan::Plan;
-use book_turns::turn_places;
+use book_turns::{Workspace, turn_places};
 use shared::kinds::{HashFamily, PartKind, SettingKind};
 use shared::refusal::Refusal;
-use shared::sizes::Sizes;
-use shared_overflow::Entry;
 use shared_places::places_of;
 
 // Whether the edges of the standing parts join the part's two places already.
 fn joins_already<F: HashFamily, P: PartKind, S: SettingKind>(
     family: &F,
-    sizes: Sizes,
-    slots: &[Slot<P, S>],
+    shelf: &Shelf<'_, P, S>,
     part: &P,
-    ends_a: &[u32],
-    ends_b: &[u32],
+    ends: &[[u32; 2]],
     marks: &mut [u32],
 ) -> bool
-    requires cached { Ends (edge sizes (F.HashFamily.hash family.now)) P.PartKind.bytes slots.now ends_a.now ends_b.now }
-    requires long { length marks.old ≡ sizes.a + sizes.b }
-    ensures { result ≡ joins (map (edge sizes (F.HashFamily.hash family.now)) (parts P.PartKind.bytes slots.now)) (edge sizes (F.HashFamily.hash family.now) (P.PartKind.bytes part.now)).0 (edge sizes (F.HashFamily.hash family.now) (P.PartKind.bytes part.now)).1 }
+    requires cached { Ends (edge shelf.now.sizes (F.HashFamily.hash family.now)) P.PartKind.bytes shelf.now.slots.now ends.now }
+    requires long { length marks.old ≡ shelf.now.sizes.a + shelf.now.sizes.b }
+    ensures { let e = edge shelf.now.sizes (F.HashFamily.hash family.now) in result ≡ joins (map e (parts P.PartKind.bytes shelf.now.slots.now)) (e (P.PartKind.bytes part.now)).0 (e (P.PartKind.bytes part.now)).1 }
 {
-    let places = places_of(family, sizes, part);
-    mark_joined(ends_a, ends_b, places.a, marks);
+    let places = places_of(family, shelf.sizes, part);
+    mark_joined(ends, places.a, marks);
     marks[places.b as usize] == 1
 }
 
@@ -46,48 +42,38 @@ fn joins_already<F: HashFamily, P: PartKind, S: SettingKind>(
 // written.
 pub fn plan_enter<F: HashFamily, P: PartKind, S: SettingKind>(
     family: &F,
-    sizes: Sizes,
-    slots: &[Slot<P, S>],
-    row_a: &[u8],
-    row_b: &[u8],
-    seeds: &[u8],
-    overflow: &[Entry],
-    number: u32,
+    book: &Memory<'_, P, S>,
     room: usize,
-    part: P,
-    setting: S,
-    words: &mut [u32],
-    marks: &mut [u32],
-    ends_a: &mut [u32],
-    ends_b: &mut [u32],
-    kept_a: &mut [u32],
-    kept_b: &mut [u32],
+    held: Held<P, S>,
+    space: &mut Workspace<'_>,
 ) -> Result<Plan, Refusal>
-    requires kept { Kept sizes slots.now row_a.now row_b.now seeds.now overflow.now }
-    requires cut { Cut sizes words.old marks.old ends_a.old ends_b.old kept_a.old kept_b.old }
-    requires few { number < 4000000000 }
-    ensures is { Planned sizes (F.HashFamily.hash family.now) (kind_of S.SettingKind.count S.SettingKind.lawful S.SettingKind.blanks) (book_of P.PartKind.bytes S.SettingKind.numbers sizes slots.now row_a.now row_b.now seeds.now overflow.now number) room (P.PartKind.bytes part, S.SettingKind.numbers setting) result }
-    ensures turned { Turned sizes (F.HashFamily.hash family.now) S.SettingKind.blanks (book_of P.PartKind.bytes S.SettingKind.numbers sizes slots.now row_a.now row_b.now seeds.now overflow.now number) room (P.PartKind.bytes part, S.SettingKind.numbers setting) words.new result }
+    requires cut { Cut book.now.sizes space.old }
+    requires few { book.now.number < 4000000000 }
+    ensures is { Planned book.now.sizes (F.HashFamily.hash family.now) (text_kind S.SettingKind) (book_of P.PartKind.bytes S.SettingKind.numbers book.now) room (held_as P.PartKind.bytes S.SettingKind.numbers held) result }
+    ensures turned { Turned book.now.sizes (F.HashFamily.hash family.now) S.SettingKind.blanks (book_of P.PartKind.bytes S.SettingKind.numbers book.now) room (held_as P.PartKind.bytes S.SettingKind.numbers held) space.new.words.now result }
+    ensures cut { Cut book.now.sizes space.new }
+    ensures loans { SameSpace space.new space.old }
 {
-    if let Some(_) = stands_at(sizes, slots, &part) {
+    let shelf = book.shelf();
+    if shelf.stands_at(&held.part).is_some() {
         return Err(Refusal::StandsAlready);
     }
-    cache_ends(family, sizes, slots, ends_a, ends_b);
-    if joins_already(family, sizes, slots, &part, ends_a, ends_b, marks) {
+    // `ends` and `words` are borrowed by themselves: the check covers no call that reads one slice and is lent another
+    let ends = &mut *space.ends;
+    cache_ends(family, shelf.sizes, shelf.slots, ends);
+    if joins_already(family, &shelf, &held.part, ends, space.marks) {
         return Err(Refusal::AlreadyJoined);
     }
-    let plan = match plan_along(family, sizes, slots, part, setting) {
-        Ok(plan) => plan,
-        Err(refusal) => return Err(refusal),
-    };
-    if spills_over(sizes, seeds, overflow, plan) {
+    let plan = plan_along(family, &shelf, held)?;
+    if book.spills_over(&plan) {
         return Err(Refusal::OverflowFull);
     }
-    load_rows(sizes, row_a, row_b, words);
-    turn_places(
-        family, sizes, slots, plan, part, setting, ends_a, ends_b, kept_a, kept_b, marks, words,
-    );
-    if notice_length(family, sizes, slots, plan, part, setting, words, number + 1) > room {
+    book.load_rows(space.words);
+    turn_places(family, &shelf, &plan, held, space);
+    // as `ends` above
+    let words = &mut *space.words;
+    let len = notice_length(family, &shelf, &plan, held, words, book.number + 1);
+    if len > room {
         return Err(Refusal::BufferTooShort);
     }
     Ok(plan)

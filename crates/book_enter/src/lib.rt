@@ -4,5 +4,4 @@
 
 mod along;
 pub mod enter;
-mod entries;
-mod rows;
+pub mod memory;

@@ -1,5 +1,5 @@
 -- Words and flags, one step more, and what a flag tells.
-use Rattle.std.proofs.Common.{◌≡◌, ℕ, zero, suc, ◌+◌, ◌-◌, ◌*◌, ◌/◌, ◌%◌, ◌^◌, ◌<◌, ◌≤◌, Bool, true, false, cond, eqb, List, [], ◌∷◌, ◌++◌, length, get_or, set, sym, refl, ap, ◌∙◌, ap₂, arith, get_or-set_other, get_or-set_same, pow-add, below_more}
+use Rattle.std.proofs.Common.{◌≡◌, ℕ, zero, suc, ◌+◌, ◌-◌, ◌*◌, ◌/◌, ◌%◌, ◌^◌, ◌<◌, ◌≤◌, Bool, true, false, cond, eqb, List, [], ◌∷◌, ◌++◌, length, get_or, sym, refl, ap, ◌∙◌, ap₂, arith, pow-add}
 use native.Mathlib.Nat.{div-div-eq-div-mul}
 use lib.Bits.{bit_and, and_mask}
 use Rattle.shared.specs.Graph.{◌⊕◌, flipped}
@@ -91,12 +91,3 @@ word_more row tss ts p false e =
 -- A pass over a list in place: below i each number is what f says, and the rest is as it was.
 abbrev pub Passed : (ℕ → ℕ) → List ℕ → List ℕ → ℕ → Type 0
 Passed f old new i = ((k : ℕ) → k < i → get_or new k 0 ≡ f k) × ((k : ℕ) → i ≤ k → get_or new k 0 ≡ get_or old k 0)
-
-pub passed-set : (f : ℕ → ℕ) (old new : List ℕ) (i v : ℕ) → i < length new → v ≡ f i → Passed f old new i → Passed f old (set new i v) (i + 1)
-passed-set f old new i v h e a = (
-  below_more (λ k. get_or (set new i v) k 0 ≡ f k) i (λ k l. get_or-set_other new i k v 0 (λ (q : k ≡ i). omega arith) ∙ a.0 k l) (get_or-set_same new i v 0 h ∙ e),
-  λ k l. get_or-set_other new i k v 0 (λ (q : k ≡ i). omega arith) ∙ a.1 k (omega arith),
-)
-
-pub passed-kept : (f : ℕ → ℕ) (old new : List ℕ) (i : ℕ) → get_or old i 0 ≡ f i → Passed f old new i → Passed f old new (i + 1)
-passed-kept f old new i e a = (below_more (λ k. get_or new k 0 ≡ f k) i a.0 (a.1 i (omega arith) ∙ e), λ k l. a.1 k (omega arith))

@@ -5,9 +5,10 @@
 ghost use Rattle.std.specs.Prelude.{◌≡◌, ℕ, ◌+◌, ◌/◌, ◌%◌, ◌^◌, ◌<◌, length, ◌==◌, slice_index};
 ghost use Rattle.book_flips.specs.Words.{stamped_word, stamped_at};
 
-// The word of a place that the step turns over.
+// The word of a place that the step turns over. A number and no struct of flags: the workspace is lent as words of 32 bits.
 fn stamped(word: u32, step: usize) -> u32
-    requires { (word < 2 ^ 16) × (step < 5) }
+    requires low { word < 2 ^ 16 }
+    requires few { step < 5 }
     ensures { result ≡ stamped_word word step }
 {
     let turned = if word % 2 == 0 { word + 1 } else { word - 1 };
@@ -21,9 +22,10 @@ pub fn stamp(words: &mut [u32], marks: &[u32], step: usize)
     requires low { (p : ℕ) → p < length words.old → slice_index words.old p < 2 ^ 16 }
     ensures { (p : ℕ) → p < length words.old → slice_index words.new p ≡ stamped_at words.old marks.now step p }
 {
-    for p in 0..words.len() {
+    // Tried as `words.iter_mut().zip(marks)`, and the proof did not close: it knows no word that such a loop leaves.
+    for (p, word) in words.iter_mut().enumerate() {
         if marks[p] == 1 {
-            words[p] = stamped(words[p], step);
+            *word = stamped(*word, step);
         }
     }
 }

@@ -5,32 +5,28 @@ use Rattle.shared.specs.Graph.{Edge, Joined, joins}
 use Rattle.shared.specs.Lists.{Among}
 use Rattle.shared.specs.Graph.Joined.{same, along, back}
 use Rattle.graph_laws.proofs.Walks.{follow, joined_label, label-joined}
-use Rattle.book_joined.specs.Marks.{zipped, total, Good, Binary, Even, Ready}
+use Rattle.book_joined.specs.Marks.{edges_of, first_end, second_end, total, Good, Binary, Even, Ready}
 
--- an edge of the two lists, by its index
-among_at : (xs ys : List ℕ) (k : ℕ) → k < length xs → length xs ≡ length ys → Among (get_or xs k 0, get_or ys k 0) (zipped xs ys)
-unfolding zipped
-among_at [] ys k h e = absurd (not-suc-le-zero h)
-among_at (x ∷ xs) [] k h e = absurd (omega arith)
-among_at (x ∷ xs) (y ∷ ys) zero h e = inl refl
-among_at (x ∷ xs) (y ∷ ys) (suc k) h e = inr (among_at xs ys k (le_of_suc-le-suc h) (omega arith))
+-- an edge between the ends, by its index
+among_at : (es : List (List ℕ)) (k : ℕ) → k < length es → Among (first_end es k, second_end es k) (edges_of es)
+among_at [] k h = absurd (not-suc-le-zero h)
+among_at (e ∷ es) zero h = inl refl
+among_at (e ∷ es) (suc k) h = inr (among_at es k (le_of_suc-le-suc h))
 
-at-among : (xs ys : List ℕ) (x y : ℕ) → Among (x, y) (zipped xs ys) → (k : ℕ) × (k < length xs) × (x ≡ get_or xs k 0) × (y ≡ get_or ys k 0)
-unfolding zipped
-at-among [] ys x y m = absurd m
-at-among (a ∷ xs) [] x y m = absurd m
-at-among (a ∷ xs) (b ∷ ys) x y (inl e) = (0, omega arith, ap (λ (d : Edge). d.0) e, ap (λ (d : Edge). d.1) e)
-at-among (a ∷ xs) (b ∷ ys) x y (inr m) = let r = at-among xs ys x y m in (suc r.0, omega (arith, r.1), r.2, r.3)
+at-among : (es : List (List ℕ)) (x y : ℕ) → Among (x, y) (edges_of es) → (k : ℕ) × (k < length es) × (x ≡ first_end es k) × (y ≡ second_end es k)
+at-among [] x y m = absurd m
+at-among (e ∷ es) x y (inl q) = (0, omega arith, ap (λ (d : Edge). d.0) q, ap (λ (d : Edge). d.1) q)
+at-among (e ∷ es) x y (inr m) = let r = at-among es x y m in (suc r.0, omega (arith, r.1), r.2, r.3)
 
 -- where no edge has one end marked, what is joined to a marked place is marked
-closed : (xs ys m : List ℕ) → Even xs ys (length xs) m → {x y : ℕ} → Joined (zipped xs ys) x y → get_or m x 0 ≡ 1 → get_or m y 0 ≡ 1
-closed xs ys m ev same h = h
-closed xs ys m ev {x} {y} (along {y = z} a p) h =
-    let r = at-among xs ys x z a in
-    closed xs ys m ev p (ap (λ (q : ℕ). get_or m q 0) r.3 ∙ sym (ev r.0 r.1) ∙ ap (λ (q : ℕ). get_or m q 0) (sym r.2) ∙ h)
-closed xs ys m ev {x} {y} (back {y = z} a p) h =
-    let r = at-among xs ys z x a in
-    closed xs ys m ev p (ap (λ (q : ℕ). get_or m q 0) r.2 ∙ ev r.0 r.1 ∙ ap (λ (q : ℕ). get_or m q 0) (sym r.3) ∙ h)
+closed : (es : List (List ℕ)) (m : List ℕ) → Even es (length es) m → {x y : ℕ} → Joined (edges_of es) x y → get_or m x 0 ≡ 1 → get_or m y 0 ≡ 1
+closed es m ev same h = h
+closed es m ev {x} {y} (along {y = z} a p) h =
+    let r = at-among es x z a in
+    closed es m ev p (ap (λ (q : ℕ). get_or m q 0) r.3 ∙ sym (ev r.0 r.1) ∙ ap (λ (q : ℕ). get_or m q 0) (sym r.2) ∙ h)
+closed es m ev {x} {y} (back {y = z} a p) h =
+    let r = at-among es z x a in
+    closed es m ev p (ap (λ (q : ℕ). get_or m q 0) r.2 ∙ ev r.0 r.1 ∙ ap (λ (q : ℕ). get_or m q 0) (sym r.3) ∙ h)
 
 -- the number of marks
 total-set : (m : List ℕ) (i : ℕ) → i < length m → total (set m i 1) + get_or m i 0 ≡ total m + 1
@@ -102,46 +98,46 @@ pub first_binary : (m : List ℕ) (s : ℕ) → ((k : ℕ) → get_or m k 0 ≡ 
 first_binary m s z l p = elim (after m s p l) [ inl e ↦ omega (arith, e.0) | inr e ↦ omega (arith, z p) ]
 
 -- at the end the marks are the test
-pub ended : (xs ys m : List ℕ) (s : ℕ) → Binary m → Good (zipped xs ys) s m → Even xs ys (length xs) m → (p : ℕ) → get_or m p 0 ≡ cond (joins (zipped xs ys) s p) 1 0
-ended xs ys m s bin g ev p = go (joins (zipped xs ys) s p) refl
+pub ended : (es : List (List ℕ)) (m : List ℕ) (s : ℕ) → Binary m → Good (edges_of es) s m → Even es (length es) m → (p : ℕ) → get_or m p 0 ≡ cond (joins (edges_of es) s p) 1 0
+ended es m s bin g ev p = go (joins (edges_of es) s p) refl
   where
-    go : (b : Bool) → joins (zipped xs ys) s p ≡ b → get_or m p 0 ≡ cond b 1 0
-    go true e = closed xs ys m ev (label-joined (zipped xs ys) s p (eqb-true _ _ e)) g.begun
+    go : (b : Bool) → joins (edges_of es) s p ≡ b → get_or m p 0 ≡ cond b 1 0
+    go true e = closed es m ev (label-joined (edges_of es) s p (eqb-true _ _ e)) g.begun
     go false e = elim (cases_eq (get_or m p 0) 1) [
       | inl h ↦ absurd (no e (eq-eqb _ _ (joined_label (g.sound p h))))
       | inr n ↦ omega (arith, bin p)
     ]
       where
-        no : joins (zipped xs ys) s p ≡ false → joins (zipped xs ys) s p ≡ true → ⊥
-        no f t = let z : false ≡ true = sym f ∙ t in let q : ◌≡◌ {A = ℕ} 0 1 = cc in omega arith
+        no : joins (edges_of es) s p ≡ false → joins (edges_of es) s p ≡ true → ⊥
+        no f t = cc
 
 -- what a round keeps after i edges, n of which marked an end
-pub record Kept (ea eb m0 m : List ℕ) (n i : ℕ) : Type 0 where
+pub record Kept (es : List (List ℕ)) (m0 m : List ℕ) (n i : ℕ) : Type 0 where
   pub binary : Binary m
-  pub good : (s : ℕ) → Good (zipped ea eb) s m0 → Good (zipped ea eb) s m
+  pub good : (s : ℕ) → Good (edges_of es) s m0 → Good (edges_of es) s m
   pub count : total m ≡ total m0 + n
-  pub even : n ≡ 0 → Even ea eb i m
+  pub even : n ≡ 0 → Even es i m
   pub few : n ≤ i
 
-pub kept_same : (ea eb m0 m : List ℕ) (n i : ℕ) → get_or m (get_or ea i 0) 0 ≡ get_or m (get_or eb i 0) 0 → Kept ea eb m0 m n i → Kept ea eb m0 m n (i + 1)
-kept_same ea eb m0 m n i e k = record {
+pub kept_same : (es : List (List ℕ)) (m0 m : List ℕ) (n i : ℕ) → get_or m (first_end es i) 0 ≡ get_or m (second_end es i) 0 → Kept es m0 m n i → Kept es m0 m n (i + 1)
+kept_same es m0 m n i e k = record {
   binary = k.binary;
   good = k.good;
   count = k.count;
-  even = λ z. below_more (λ q. get_or m (get_or ea q 0) 0 ≡ get_or m (get_or eb q 0) 0) i (k.even z) e;
+  even = λ z. below_more (λ q. get_or m (first_end es q) 0 ≡ get_or m (second_end es q) 0) i (k.even z) e;
   few = omega (arith, k.few);
 }
 
-pub kept-both : (ea eb m0 m : List ℕ) (n i : ℕ) → Ready ea eb (length m0) → length m ≡ length m0 → i < length ea → get_or m (get_or ea i 0) 0 ≢ get_or m (get_or eb i 0) 0 → Kept ea eb m0 m n i → Kept ea eb m0 (both m (get_or ea i 0) (get_or eb i 0)) (n + 1) (i + 1)
-kept-both ea eb m0 m n i r l h ne k =
-    let x = get_or ea i 0 in
-    let y = get_or eb i 0 in
+pub kept-both : (es : List (List ℕ)) (m0 m : List ℕ) (n i : ℕ) → Ready es (length m0) → length m ≡ length m0 → i < length es → get_or m (first_end es i) 0 ≢ get_or m (second_end es i) 0 → Kept es m0 m n i → Kept es m0 (both m (first_end es i) (second_end es i)) (n + 1) (i + 1)
+kept-both es m0 m n i r l h ne k =
+    let x = first_end es i in
+    let y = second_end es i in
     let la : x < length m = omega (arith, r.low_a i h) in
-    let lb : y < length m = omega (arith, r.low_b i (omega (arith, r.same))) in
+    let lb : y < length m = omega (arith, r.low_b i h) in
     let t = both-total m x y k.binary la lb ne in
     record {
       binary = both-binary m x y k.binary la lb ne;
-      good = λ s g. both-good m x y k.binary la lb ne (zipped ea eb) (among_at ea eb i h r.same) s (k.good s g);
+      good = λ s g. both-good m x y k.binary la lb ne (edges_of es) (among_at es i h) s (k.good s g);
       count = omega (arith, k.count);
       even = λ z. absurd (omega arith);
       few = omega (arith, k.few);

@@ -1,44 +1,26 @@
--- A loop that writes a list of numbers, one by one.
-use Rattle.std.proofs.Common.{◌≡◌, ℕ, zero, suc, ◌+◌, ◌<◌, ◌≤◌, Bool, cond, List, [], ◌∷◌, ◌++◌, map, length, get_or, take, set, sym, refl, ap, ◌∙◌, ap₂, arith}
-use lib.ListN.{length-map}
-use Rattle.std.proofs.lemmas.List.{take_more, take_more_set, take_all, get_or_read, get_or-map}
+-- Pairs that are written one by one, told by their index.
+use Rattle.std.proofs.Common.{◌≡◌, ℕ, suc, ◌<◌, cond, List, [], ◌∷◌, map, length, get_or, refl, ap₂, arith}
+use Rattle.std.specs.Prelude.{Option, None}
 use Rattle.shared.specs.Table.{Part}
-use Rattle.book_slots.specs.declared.Slot.{Slot}
-use Rattle.book_slots.specs.declared.Slot.TheVariants.{Empty}
-use Rattle.book_joined.specs.Ends.{holds, leaving}
+use Rattle.book_slots.specs.declared.Held.{Held}
+use Rattle.book_slots.specs.Slots.{holds}
+use Rattle.book_joined.specs.Ends.{pair, leaving}
 
-pub write_more : (ns ms : List ℕ) (i v : ℕ) → i < length ns → i < length ms → v ≡ get_or ms i 0 → take i ns ≡ take i ms → take (i + 1) (set ns i v) ≡ take (i + 1) ms
-write_more ns ms i v ln lm e h = take_more_set ns i v ln ∙ ap₂ (λ (l : List ℕ) (x : ℕ). l ++ x ∷ []) h e ∙ sym (take_more ms i 0 lm)
+module _ {P S : Type 0} where
+  -- if each is what f says of its slot, they are f of the slots
+  pub map-each : (f : Option (Held P S) → List ℕ) (xs : List (Option (Held P S))) (es : List (List ℕ)) → length es ≡ length xs → ((k : ℕ) → k < length xs → get_or es k [] ≡ f (get_or xs k None)) → es ≡ map f xs
+  map-each f [] [] e h = refl
+  map-each f [] (y ∷ es) e h = absurd (omega arith)
+  map-each f (x ∷ xs) [] e h = absurd (omega arith)
+  map-each f (x ∷ xs) (y ∷ es) e h = ap₂ (λ (a : List ℕ) (l : List (List ℕ)). a ∷ l) (h 0 (omega arith)) (map-each f xs es (omega arith) (λ k l. h (suc k) (omega arith)))
 
-pub write_all : (ns ms : List ℕ) (i : ℕ) → length ns ≤ i → length ms ≤ i → take i ns ≡ take i ms → ns ≡ ms
-write_all ns ms i ln lm h = sym (take_all i ns ln) ∙ h ∙ take_all i ms lm
-
--- of the numbers f x, where x was read from the list
-module _ {X : Type 0} (f : X → ℕ) (xs : List X) (ns : List ℕ) (i : ℕ) where
-  pub mapped-more : (x : X) (v : ℕ) → i < length xs → length ns ≡ length xs → x ≡ get_or xs i x → v ≡ f x → take i ns ≡ take i (map f xs) → take (i + 1) (set ns i v) ≡ take (i + 1) (map f xs)
-  mapped-more x v h l is e inv =
-      write_more ns (map f xs) i v (omega arith) (omega (arith, length-map xs f)) (e ∙ ap f is ∙ sym (get_or-map f xs i x 0 h)) inv
-
-  pub mapped-all : length xs ≤ i → length ns ≡ length xs → take i ns ≡ take i (map f xs) → ns ≡ map f xs
-  mapped-all h l inv = write_all ns (map f xs) i (omega arith) (omega (arith, length-map xs f)) inv
-
--- the numbers with a part left out: as many, and each 0 or as it was
-module _ {P S : Type 0} (bytes : P → List ℕ) (k : Part) where
-  pub length-leaving : (xs : List (Slot P S)) (ns : List ℕ) → length ns ≡ length xs → length (leaving bytes k xs ns) ≡ length xs
+  -- if each is as it was, or place 0 twice where the slot holds the part, the part is left out
+  pub leaving-each : (bytes : P → List ℕ) (p : Part) (xs : List (Option (Held P S))) (es ks : List (List ℕ)) → length es ≡ length xs → length ks ≡ length xs
+      → ((k : ℕ) → k < length xs → get_or ks k [] ≡ cond (holds bytes p (get_or xs k None)) (pair (0, 0)) (get_or es k [])) → ks ≡ leaving bytes p xs es
   unfolding leaving
-  length-leaving [] ns e = refl
-  length-leaving (x ∷ xs) [] e = e
-  length-leaving (x ∷ xs) (n ∷ ns) e = ap suc (length-leaving xs ns (omega arith))
-
-  get_or-leaving : (xs : List (Slot P S)) (ns : List ℕ) (i : ℕ) → i < length xs → length ns ≡ length xs → get_or (leaving bytes k xs ns) i 0 ≡ cond (holds bytes k (get_or xs i Empty)) 0 (get_or ns i 0)
-  unfolding leaving
-  get_or-leaving [] ns i h e = absurd (omega arith)
-  get_or-leaving (x ∷ xs) [] i h e = absurd (omega arith)
-  get_or-leaving (x ∷ xs) (n ∷ ns) zero h e = refl
-  get_or-leaving (x ∷ xs) (n ∷ ns) (suc i) h e = get_or-leaving xs ns i (omega arith) (omega arith)
-
-  pub left-more : (xs : List (Slot P S)) (ns ms : List ℕ) (i : ℕ) (x : Slot P S) (b : Bool) → i < length xs → length ns ≡ length xs → length ms ≡ length xs → x ≡ get_or xs i x → b ≡ holds bytes k x → take i ms ≡ take i (leaving bytes k xs ns) → take (i + 1) (set ms i (cond b 0 (get_or ns i 0))) ≡ take (i + 1) (leaving bytes k xs ns)
-  left-more xs ns ms i x b h ln lm is e inv =
-      write_more ms (leaving bytes k xs ns) i (cond b 0 (get_or ns i 0)) (omega arith) (omega (arith, length-leaving xs ns ln))
-      (ap (λ (c : Bool). cond c 0 (get_or ns i 0)) (e ∙ ap (holds bytes k) (get_or_read xs i x h is Empty)) ∙ sym (get_or-leaving xs ns i h ln))
-      inv
+  leaving-each bytes p [] es [] d e h = refl
+  leaving-each bytes p [] es (y ∷ ks) d e h = absurd (omega arith)
+  leaving-each bytes p (x ∷ xs) [] ks d e h = absurd (omega arith)
+  leaving-each bytes p (x ∷ xs) (z ∷ es) [] d e h = absurd (omega arith)
+  leaving-each bytes p (x ∷ xs) (z ∷ es) (y ∷ ks) d e h =
+      ap₂ (λ (a : List ℕ) (l : List (List ℕ)). a ∷ l) (h 0 (omega arith)) (leaving-each bytes p xs es ks (omega arith) (omega arith) (λ k l. h (suc k) (omega arith)))

@@ -1,33 +1,29 @@
 -- The ends of the edges of the parts in the slots.
-use Rattle.std.specs.Prelude.{◌≡◌, ℕ, Bool, false, cond, List, [], ◌∷◌, map}
+use Rattle.std.specs.Prelude.{◌≡◌, ℕ, cond, List, [], ◌∷◌, map, Option, Some, None}
 use Rattle.shared.specs.Graph.{Edge}
-use Rattle.shared.specs.Lists.{same_list}
 use Rattle.shared.specs.Table.{Part}
-use Rattle.book_slots.specs.declared.Slot.{Slot}
-use Rattle.book_slots.specs.declared.Slot.TheVariants.{Empty, Held}
+use Rattle.book_slots.specs.declared.Held.{Held}
+use Rattle.book_slots.specs.Slots.{holds}
 
 -- the edge of the slot's part; of an empty slot a loop at place 0, which joins nothing
-abbrev pub ends : {P S : Type 0} → (Part → Edge) → (P → List ℕ) → Slot P S → Edge
-ends edge bytes Empty = (0, 0)
-ends edge bytes (Held p s) = edge (bytes p)
+abbrev pub ends : {P S : Type 0} → (Part → Edge) → (P → List ℕ) → Option (Held P S) → Edge
+ends edge bytes None = (0, 0)
+ends edge bytes (Some h) = edge (bytes h.part)
 
--- the two lists hold the ends of the slots' edges
-pub record Ends {P S : Type 0} (edge : Part → Edge) (bytes : P → List ℕ) (xs : List (Slot P S)) (ea eb : List ℕ) : Type 0 where
-  pub a : ea ≡ map (λ x. (ends edge bytes x).0) xs
-  pub b : eb ≡ map (λ x. (ends edge bytes x).1) xs
+-- the ends of an edge as code holds them
+abbrev pub pair : Edge → List ℕ
+pair e = e.0 ∷ e.1 ∷ []
 
--- the slot holds the part
-abbrev pub holds : {P S : Type 0} → (P → List ℕ) → Part → Slot P S → Bool
-holds bytes k Empty = false
-holds bytes k (Held p s) = same_list k (bytes p)
+-- the list holds the ends of the slots' edges
+abbrev pub Ends : {P S : Type 0} → (Part → Edge) → (P → List ℕ) → List (Option (Held P S)) → List (List ℕ) → Type 0
+Ends edge bytes xs es = es ≡ map (λ x. pair (ends edge bytes x)) xs
 
--- the numbers, but 0 at each slot that holds the part
-unfoldable pub leaving : {P S : Type 0} → (P → List ℕ) → Part → List (Slot P S) → List ℕ → List ℕ
-leaving bytes k [] ns = []
+-- the pairs, but place 0 twice at each slot that holds the part
+unfoldable pub leaving : {P S : Type 0} → (P → List ℕ) → Part → List (Option (Held P S)) → List (List ℕ) → List (List ℕ)
+leaving bytes k [] es = []
 leaving bytes k (x ∷ xs) [] = []
-leaving bytes k (x ∷ xs) (n ∷ ns) = cond (holds bytes k x) 0 n ∷ leaving bytes k xs ns
+leaving bytes k (x ∷ xs) (e ∷ es) = cond (holds bytes k x) (pair (0, 0)) e ∷ leaving bytes k xs es
 
 -- the ends with one part left out
-pub record Left {P S : Type 0} (bytes : P → List ℕ) (k : Part) (xs : List (Slot P S)) (ea eb ka kb : List ℕ) : Type 0 where
-  pub a : ka ≡ leaving bytes k xs ea
-  pub b : kb ≡ leaving bytes k xs eb
+abbrev pub Left : {P S : Type 0} → (P → List ℕ) → Part → List (Option (Held P S)) → List (List ℕ) → List (List ℕ) → Type 0
+Left bytes k xs es ks = ks ≡ leaving bytes k xs es

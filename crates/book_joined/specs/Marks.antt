@@ -1,12 +1,17 @@
--- Marks on places, and edges given by two lists of ends.
-use Rattle.std.specs.Prelude.{◌≡◌, ℕ, ◌+◌, ◌<◌, ◌≤◌, cond, List, [], ◌∷◌, length, slice_index, slice_index_or}
+-- Marks on places, and edges given by the pairs of their ends.
+use Rattle.std.specs.Prelude.{◌≡◌, ℕ, ◌+◌, ◌<◌, ◌≤◌, cond, List, [], ◌∷◌, map, length, slice_index, slice_index_or}
 use Rattle.shared.specs.Graph.{Edge, Joined, joins}
 
--- the edges between the ends, one by one
-unfoldable pub zipped : List ℕ → List ℕ → List Edge
-zipped [] ys = []
-zipped (x ∷ xs) [] = []
-zipped (x ∷ xs) (y ∷ ys) = (x, y) ∷ zipped xs ys
+-- the edges between the ends
+abbrev pub edges_of : List (List ℕ) → List Edge
+edges_of es = map (λ e. (slice_index e 0, slice_index e 1)) es
+
+-- the two ends of edge k
+abbrev pub first_end : List (List ℕ) → ℕ → ℕ
+first_end es k = slice_index (slice_index_or es k []) 0
+
+abbrev pub second_end : List (List ℕ) → ℕ → ℕ
+second_end es k = slice_index (slice_index_or es k []) 1
 
 -- the marks are 1 at the places that the edges join to s, and 0 at the others
 abbrev pub Marked : List Edge → ℕ → List ℕ → Type 0
@@ -27,15 +32,10 @@ abbrev pub Binary : List ℕ → Type 0
 Binary m = (p : ℕ) → slice_index m p ≤ 1
 
 -- each of the first n edges has both ends marked, or neither
-abbrev pub Even : List ℕ → List ℕ → ℕ → List ℕ → Type 0
-Even ea eb n m = (k : ℕ) → k < n → slice_index m (slice_index ea k) ≡ slice_index m (slice_index eb k)
+abbrev pub Even : List (List ℕ) → ℕ → List ℕ → Type 0
+Even es n m = (k : ℕ) → k < n → slice_index m (first_end es k) ≡ slice_index m (second_end es k)
 
--- each number is below n
-abbrev pub Inside : List ℕ → ℕ → Type 0
-Inside xs n = (k : ℕ) → k < length xs → slice_index xs k < n
-
--- the ends of as many edges, between n places
-pub record Ready (ea eb : List ℕ) (n : ℕ) : Type 0 where
-  pub same : length ea ≡ length eb
-  pub low_a : Inside ea n
-  pub low_b : Inside eb n
+-- the ends of edges between n places
+pub record Ready (es : List (List ℕ)) (n : ℕ) : Type 0 where
+  pub low_a : (k : ℕ) → k < length es → first_end es k < n
+  pub low_b : (k : ℕ) → k < length es → second_end es k < n

@@ -1,6 +1,7 @@
 -- Notices are shorter than the largest number, so that a ruler measures them exactly.
-use Rattle.std.proofs.Common.{◌≡◌, ℕ, zero, suc, ◌+◌, ◌-◌, ◌*◌, ◌/◌, ◌%◌, ◌^◌, ◌<◌, ◌≤◌, Bool, true, false, cond, ◌&&◌, eqb, ltb, List, [], ◌∷◌, ◌++◌, map, length, get_or, codes, fold, sym, refl, ap, ◌∙◌, ap₂, arith}
+use Rattle.std.proofs.Common.{◌≡◌, ℕ, zero, suc, ◌+◌, ◌-◌, ◌*◌, ◌/◌, ◌%◌, ◌^◌, ◌<◌, ◌≤◌, Bool, true, false, cond, ◌&&◌, eqb, ltb, List, [], ◌∷◌, ◌++◌, map, length, get_or, codes, fold, refl, ap, arith}
 use mathlib.Core.Option.{none, some}
+use Rattle.std.specs.Prelude.{Option as CodeOption, Some, None}
 use lib.ListN.{length-map}
 use Rattle.std.proofs.lemmas.List.{length-append}
 use Rattle.shared.specs.declared.sizes.Sizes.{Sizes}
@@ -13,16 +14,19 @@ use Rattle.shared.specs.Tokens.{digits_onto}
 use Rattle.chain_laws.proofs.Ranges.{length-map_up}
 use Rattle.shared_text.specs.Events.{Event, begin_bucket, setting_at, row_a, row_b, flip, end_bucket, slot_step, settings_from, step_events, events_of}
 use Rattle.shared_pen.specs.Pens.{space_before, number_text, behind_spaces, numbers_text, setting_text, event_text, events_text, head_text, end_text}
-use Rattle.shared_pen.specs.Rules.{measured, ruled_event}
+use Rattle.shared_pen.specs.Inks.{poured}
+use Rattle.shared_pen.specs.Rules.{ruled_byte}
+use Rattle.shared_pen.specs.Prints.{put, printed}
+use Rattle.shared_pen.specs.declared.printer.Printer.{Printer}
 use Rattle.shared_pen.specs.declared.ruler.Ruler.{Ruler}
 use Rattle.shared_pen.proofs.Lines.{in_events}
-use Rattle.shared_pen.proofs.Measured.{rule_exact, rule_notice}
-use Rattle.book_slots.specs.declared.Slot.{Slot as CodeSlot}
-use Rattle.book_slots.specs.declared.Slot.TheVariants.{Empty, Held}
+use Rattle.shared_pen.proofs.Measured.{rule_finished}
+use Rattle.shared_pen.proofs.Printed.{notice_printed}
+use Rattle.book_slots.specs.declared.Held.{Held as CodeHeld}
 use Rattle.book_slots.specs.Slots.{viewed, slot_in}
-use Rattle.book_notice.specs.Lengths.{notice_length}
-use Rattle.book_steps.specs.declared.plan.Plan.{Plan}
-use Rattle.book_steps.specs.Plans.{held_or, held_at, placement_at, flagged, flagged_from, values_at, shown_step, shown_steps}
+use Rattle.book_notice.specs.Lengths.{notice_length, notice_bytes}
+use Rattle.book_steps.specs.declared.plan.Placing.{Placing}
+use Rattle.book_steps.specs.Plans.{placing_at, held_or, held_at, placement_at, flagged, flagged_from, values_at, shown_step, shown_steps}
 
 -- at most twenty digits
 digits_few : (k n : ℕ) (rest : List ℕ) → length (digits_onto k n rest) ≤ k + length rest
@@ -184,17 +188,17 @@ module _ (hash : Hash) (blank : Setting) (hb : Short blank) where
     or_short none r = hh
     or_short (some g) r = r
 
-    held-short : (plan : Plan) (k : ℕ) → Short (held_at slot plan h k).1
-    held-short plan k = go (eqb k plan.moves)
+    held-short : (plan : List Placing) (k : ℕ) → Short (held_at slot plan h k).1
+    held-short plan k = go (eqb (k + 1) (length plan))
       where
         x : Slot
-        x = slot (get_or plan.buckets (k + 1) 0) (get_or plan.spots (k + 1) 0)
+        x = slot (placing_at plan (k + 1)).bucket (placing_at plan (k + 1)).spot
 
         go : (b : Bool) → Short (cond b h (held_or h x)).1
         go true = hh
         go false = or_short x (hs _ _)
 
-    module _ (z : Sizes) (plan : Plan) (words : List ℕ) where
+    module _ (z : Sizes) (plan : List Placing) (words : List ℕ) where
       value-few : (k i : ℕ) → Short (values_at z hash blank slot plan h words k i)
       value-few k i =
           let p = placement_at slot plan h k in
@@ -209,8 +213,8 @@ module _ (hash : Hash) (blank : Setting) (hb : Short blank) where
           let vs = map (values_at z hash blank slot plan h words k) (0 ∷ 1 ∷ 2 ∷ 3 ∷ []) in
           let pa = flagged_from words k 0 z.a in
           let pb = flagged_from words k z.a z.b in
-          let j = get_or plan.buckets k 0 in
-          let s = get_or plan.seeds k 0 in (
+          let j = (placing_at plan k).bucket in
+          let s = (placing_at plan k).seed in (
             small-step j s vs pa pb (value-few k 0, (value-few k 1, (value-few k 2, (value-few k 3, tt)))),
             omega (arith, z.few_a, z.few_b, flags-few words k 0 z.a, flags-few words k z.a z.b, length-events j s vs pa pb),
           )
@@ -225,31 +229,31 @@ module _ (hash : Hash) (blank : Setting) (hb : Short blank) where
           )
 
       -- the whole notice
-      pub notice-few : (kind : Kind) (n : ℕ) → plan.moves < 5 → notice_length kind n (shown_steps z hash blank slot plan h words) < 2 ^ 64 - 1
-      notice-few kind n few = let all = steps-few 0 (suc plan.moves) in few_events kind n (shown_steps z hash blank slot plan h words) all.0 (omega (arith, all.1))
+      pub notice-few : (kind : Kind) (n : ℕ) → length plan ≤ 5 → notice_length kind n (shown_steps z hash blank slot plan h words) < 2 ^ 64 - 1
+      notice-few kind n few = let all = steps-few 0 (length plan) in few_events kind n (shown_steps z hash blank slot plan h words) all.0 (omega (arith, all.1))
 
 -- slots in code, whose settings are short
-pub slots-short : {P S : Type 0} (bytes : P → List ℕ) (numbers : S → List ℕ) → ((s : S) → Short (numbers s)) → (xs : List (CodeSlot P S)) (j i : ℕ) → ShortSlot (slot_in bytes numbers xs j i)
-slots-short bytes numbers h xs j i = go (ltb i 4) (get_or xs (4 * j + i) Empty)
+pub slots-short : {P S : Type 0} (bytes : P → List ℕ) (numbers : S → List ℕ) → ((s : S) → Short (numbers s)) → (xs : List (CodeOption (CodeHeld P S))) (j i : ℕ) → ShortSlot (slot_in bytes numbers xs j i)
+slots-short bytes numbers h xs j i = go (ltb i 4) (get_or xs (4 * j + i) None)
   where
-    go : (b : Bool) (x : CodeSlot _ _) → ShortSlot (cond b (viewed bytes numbers x) none)
-    go true Empty = tt
-    go true (Held p s) = h s
+    go : (b : Bool) (x : CodeOption (CodeHeld _ _)) → ShortSlot (cond b (viewed bytes numbers x) none)
+    go true None = tt
+    go true (Some g) = h g.setting
     go false x = tt
 
-pub length-shown : (z : Sizes) (hash : Hash) (blank : Setting) (slot : ℕ → ℕ → Slot) (plan : Plan) (h : HeldPart) (words : List ℕ) → length (shown_steps z hash blank slot plan h words) ≡ plan.moves + 1
-length-shown z hash blank slot plan h words =
-    omega (arith, length-map_up (shown_step z hash blank slot plan h words) 0 (suc plan.moves))
+pub length-shown : (z : Sizes) (hash : Hash) (blank : Setting) (slot : ℕ → ℕ → Slot) (plan : List Placing) (h : HeldPart) (words : List ℕ) → length (shown_steps z hash blank slot plan h words) ≡ length plan
+length-shown z hash blank slot plan h words = length-map_up (shown_step z hash blank slot plan h words) 0 (length plan)
 
--- a ruler that was shown head, steps and end: r0 at its start, then r1, r2 and r3
-pub ruled_notice : (kind : Kind) (n c : ℕ) (steps : List Step) (r0 r1 r2 r3 : Ruler) → r0.len ≡ 0 → r1.len ≡ measured r0.len (head_text n c) → length steps ≡ c → r2 ≡ fold ruled_event r1 (events_of steps)
-    → r3.len ≡ measured r2.len (end_text n) → notice_length kind n steps < 2 ^ 64 - 1 → r3.len ≡ notice_length kind n steps
-unfolding notice_length
-ruled_notice kind n c steps r0 r1 r2 r3 e0 e1 ec e2 e3 few =
-    let start : r1.len ≡ measured 0 (head_text n (length steps)) = e1 ∙ ap₂ (λ (m k : ℕ). measured m (head_text n k)) e0 (sym ec) in
-    e3
-    ∙ ap (λ (r : Ruler). measured r.len (end_text n)) e2
-    ∙ ap (λ (m : ℕ). measured (fold ruled_event (record { len = m }) (events_of steps)).len (end_text n)) start
-    ∙ rule_notice 0 kind n steps
-    ∙ rule_exact 0 (notice_text kind n steps) (omega arith)
-    ∙ omega arith
+-- a printer that was shown a notice: `p` at its start, `q` behind the head, `w` behind the steps and `x` behind the end
+pub notice_put : {S : Type 0} (each : S → ℕ → S) (kind : Kind) (n c : ℕ) (steps : List Step) (p q w x : Printer S)
+    → length steps ≡ c → q ≡ put each p (head_text n c) → w ≡ fold (printed each) q (events_of steps) → x ≡ put each w (end_text n) → x ≡ put each p (notice_bytes kind n steps)
+unfolding notice_bytes
+notice_put each kind n c steps p q w x count head shown done = notice_printed each kind n c steps p q w x count head shown done
+
+-- a ruler at its start, and after the notice
+pub notice_ruled : (kind : Kind) (n : ℕ) (steps : List Step) (r s : Ruler) → r.len ≡ 0 → s ≡ poured ruled_byte r (notice_bytes kind n steps) → notice_length kind n steps < 2 ^ 64 - 1 → s.len ≡ notice_length kind n steps
+unfolding notice_length notice_bytes
+notice_ruled kind n steps r s start ruled few = rule_finished r s (notice_text kind n steps) start ruled (below (length (notice_text kind n steps)) few)
+  where
+    below : (m : ℕ) → m < 2 ^ 64 - 1 → m < 2 ^ 64
+    below m h = omega arith

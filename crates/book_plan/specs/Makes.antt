@@ -1,35 +1,42 @@
 -- How a plan is made, from the chain's far end.
-use Rattle.std.specs.Prelude.{◌≡◌, ℕ, ◌+◌, ◌<◌, List, length, Some, None, Option as CodeOption, slice_index, slice_set}
+use Rattle.std.specs.Prelude.{◌≡◌, ℕ, ◌+◌, ◌<◌, List, [], ◌∷◌, ◌++◌, length, Some, None, Option as CodeOption}
 use Rattle.std.proofs.Math.Option.{Option, none, some}
+use Rattle.arrayvec.specs.ArrayVec.{ArrayVec}
 use Rattle.shared.specs.declared.sizes.Sizes.{Sizes}
 use Rattle.shared.specs.Book.{Held, Slot}
+use Rattle.shared.specs.Lists.{◌then◌}
 use Rattle.chain_laws.specs.Plans.{Placement}
-use Rattle.book_steps.specs.declared.plan.Plan.{Plan}
-use Rattle.book_steps.specs.Plans.{Fit, placements_of}
+use Rattle.book_steps.specs.declared.plan.Placing.{Placing}
+use Rattle.book_steps.specs.Plans.{Fit, placing_at, placements_of}
 
--- room for five steps
-abbrev pub Sized : Plan → Type 0
-Sized p = (length p.buckets ≡ 5) × (length p.spots ≡ 5) × (length p.seeds ≡ 5)
+-- a step of a plan
+abbrev pub placing : ℕ → ℕ → ℕ → Placing
+placing j i s = record { bucket = j; spot = i; seed = s }
 
--- the plan with one step more, its last
-abbrev pub put_in : Plan → ℕ → ℕ → ℕ → ℕ → Plan
-put_in p m j i s = record { moves = m; buckets = slice_set p.buckets m j; spots = slice_set p.spots m i; seeds = slice_set p.seeds m s }
+-- the steps with one more, the last, under the seed that was found
+abbrev pub with_last : List Placing → ℕ → ℕ → Option ℕ → Option (List Placing)
+with_last ps j i seed = seed then (λ s. some (ps ++ (placing j i s ∷ [])))
 
--- each step but the first comes into a slot that holds a part, which is the one that the step before it moved
-abbrev pub Whole : (ℕ → ℕ → Slot) → Plan → Type 0
-Whole slot plan = (k : ℕ) → k < plan.moves → (g : Held) × (slot (slice_index plan.buckets (k + 1)) (slice_index plan.spots (k + 1)) ≡ some g)
+-- a plan's steps
+abbrev pub steps_of : CodeOption (ArrayVec Placing) → Option (List Placing)
+steps_of (Some p) = some p.items
+steps_of None = none
 
 -- a plan as the rules' placements
-abbrev pub plan_of : (ℕ → ℕ → Slot) → Held → CodeOption Plan → Option (List Placement)
-plan_of slot h (Some p) = some (placements_of slot p h)
+abbrev pub plan_of : (ℕ → ℕ → Slot) → Held → CodeOption (ArrayVec Placing) → Option (List Placement)
+plan_of slot h (Some p) = some (placements_of slot p.items h)
 plan_of slot h None = none
 
--- what is known of a plan of m moves
-pub record Made (z : Sizes) (slot : ℕ → ℕ → Slot) (m : ℕ) (p : Plan) : Type 0 where
-  pub fit : Fit z p
-  pub whole : Whole slot p
-  pub moves : p.moves ≡ m
+-- each step but the first comes into a slot that holds a part, which is the one that the step before it moved
+abbrev pub Whole : (ℕ → ℕ → Slot) → List Placing → Type 0
+Whole slot ps = (k : ℕ) → k + 1 < length ps → (g : Held) × (slot (placing_at ps (k + 1)).bucket (placing_at ps (k + 1)).spot ≡ some g)
 
-abbrev pub MadeIf : Sizes → (ℕ → ℕ → Slot) → ℕ → CodeOption Plan → Type 0
-MadeIf z slot m (Some p) = Made z slot m p
+-- what is known of the steps of a plan of m moves
+pub record Made (z : Sizes) (slot : ℕ → ℕ → Slot) (m : ℕ) (ps : List Placing) : Type 0 where
+  pub fit : Fit z ps
+  pub whole : Whole slot ps
+  pub moves : length ps ≡ m + 1
+
+abbrev pub MadeIf : Sizes → (ℕ → ℕ → Slot) → ℕ → CodeOption (ArrayVec Placing) → Type 0
+MadeIf z slot m (Some p) = Made z slot m p.items
 MadeIf z slot m None = Unit {0}

@@ -1,74 +1,58 @@
 // The plan of an enter along a chain, worked out with nothing written.
 #![tactic(auto)]
 
-ghost use Rattle.std.specs.Prelude.{◌≡◌, ℕ, ◌*◌, ◌<◌, ◌≤◌, length, slice_index};
-ghost use Rattle.chain_laws.specs.Plans.{planned};
-ghost use Rattle.book_slots.specs.Slots.{slot_in};
-ghost use Rattle.book_chains.specs.Paths.{down_from};
-ghost use Rattle.book_plan.specs.Makes.{Sized, put_in, plan_of, MadeIf};
+ghost use Rattle.std.specs.Prelude.{◌≡◌, ℕ, ◌+◌, ◌<◌, ◌≤◌, length, reverse, slice_index};
+ghost use Rattle.chain_laws.specs.Plans.{seed_at, planned};
+ghost use Rattle.book_slots.specs.Slots.{held_as, slot_in};
+ghost use Rattle.book_plan.specs.Makes.{with_last, steps_of, plan_of, MadeIf};
 
 use book_seeds::seed_with;
-use book_slots::{MOST_MOVES, MOST_STEPS, Slot, lowest_empty};
-use book_steps::plan::Plan;
+use book_slots::{Held, MOST_MOVES, MOST_STEPS, Shelf};
+use book_steps::plan::{Placing, Plan};
 use shared::kinds::{HashFamily, PartKind, SettingKind};
-use shared::sizes::Sizes;
 use shared_places::places_of;
 
-// The plan with one step more, its last.
-fn put(plan: Plan, step: usize, bucket: u32, spot: u8, seed: u8) -> Plan
-    requires { step < 5 }
-    ensures is { result ≡ put_in plan step bucket spot seed }
-    ensures sized { Sized plan }
+// The plan with one step more, its last, if the bucket then has a seed. Bucket and slot come apart: a plan knows the bucket before
+// its slot is found.
+fn with_step<F: HashFamily, P: PartKind, S: SettingKind>(
+    family: &F,
+    shelf: &Shelf<'_, P, S>,
+    mut plan: Plan,
+    bucket: u32,
+    spot: u8,
+    held: Held<P, S>,
+) -> Option<Plan>
+    requires room { length plan.items < MOST_STEPS }
+    requires into { bucket < shelf.now.sizes.buckets }
+    requires spot { spot < 4 }
+    ensures { steps_of result ≡ with_last plan.items bucket spot (seed_at shelf.now.sizes (F.HashFamily.hash family.now) (slot_in P.PartKind.bytes S.SettingKind.numbers shelf.now.slots.now) bucket spot (held_as P.PartKind.bytes S.SettingKind.numbers held)) }
 {
-    let mut longer = plan;
-    longer.moves = step;
-    longer.buckets[step] = bucket;
-    longer.spots[step] = spot;
-    longer.seeds[step] = seed;
-    longer
+    let seed = seed_with(family, shelf.slots, bucket, spot, held)?;
+    plan.push(Placing { bucket, spot, seed });
+    Some(plan)
 }
 
-// The plan that brings the part into the bucket by so many moves, or none where a bucket would have no seed. The moves' slots
-// stand as a chain has them.
+// The plan that brings the part into the bucket by moves that empty these slots, or none where a bucket would have no seed. The
+// slots stand as a chain has them, the last move's first.
 pub fn plan_from<F: HashFamily, P: PartKind, S: SettingKind>(
     family: &F,
-    sizes: Sizes,
-    slots: &[Slot<P, S>],
-    moves: usize,
+    shelf: &Shelf<'_, P, S>,
+    picks: &[u8],
     bucket: u32,
-    picks: [u8; MOST_MOVES],
-    part: P,
-    setting: S,
+    held: Held<P, S>,
 ) -> Option<Plan>
-    requires long { length slots.now ≡ 4 * sizes.buckets }
-    requires few { moves ≤ 4 }
-    requires into { bucket < sizes.buckets }
-    requires picks { (k : ℕ) → slice_index picks k < 4 }
-    ensures is { plan_of (slot_in P.PartKind.bytes S.SettingKind.numbers slots.now) (P.PartKind.bytes part, S.SettingKind.numbers setting) result ≡ planned sizes (F.HashFamily.hash family.now) (slot_in P.PartKind.bytes S.SettingKind.numbers slots.now) bucket (P.PartKind.bytes part, S.SettingKind.numbers setting) (down_from picks moves) }
-    ensures made { MadeIf sizes (slot_in P.PartKind.bytes S.SettingKind.numbers slots.now) moves result }
+    requires few { length picks.now ≤ MOST_MOVES }
+    requires into { bucket < shelf.now.sizes.buckets }
+    requires picks { (k : ℕ) → k < length picks.now → slice_index picks.now k < 4 }
+    ensures is { plan_of (slot_in P.PartKind.bytes S.SettingKind.numbers shelf.now.slots.now) (held_as P.PartKind.bytes S.SettingKind.numbers held) result ≡ planned shelf.now.sizes (F.HashFamily.hash family.now) (slot_in P.PartKind.bytes S.SettingKind.numbers shelf.now.slots.now) bucket (held_as P.PartKind.bytes S.SettingKind.numbers held) (reverse picks.now) }
+    ensures made { MadeIf shelf.now.sizes (slot_in P.PartKind.bytes S.SettingKind.numbers shelf.now.slots.now) (length picks.now) result }
 {
-    if moves == 0 {
-        let spot = lowest_empty(slots, bucket)?;
-        let seed = seed_with(family, slots, bucket, spot, part, setting)?;
-        let none = Plan {
-            moves: 0,
-            buckets: [0; MOST_STEPS],
-            spots: [0; MOST_STEPS],
-            seeds: [0; MOST_STEPS],
-        };
-        return Some(put(none, 0, bucket, spot, seed));
-    }
-    let spot = picks[moves - 1];
-    let slot = slots[4 * bucket as usize + spot as usize];
-    let Slot::Held {
-        part: held,
-        setting: own,
-    } = slot
-    else {
-        return None;
+    let Some((&spot, rest)) = picks.split_last() else {
+        let spot = shelf.lowest_empty(bucket)?;
+        return with_step(family, shelf, Plan::new(), bucket, spot, held);
     };
-    let next = places_of(family, sizes, &held).other(bucket);
-    let rest = plan_from(family, sizes, slots, moves - 1, next, picks, held, own)?;
-    let seed = seed_with(family, slots, bucket, spot, part, setting)?;
-    Some(put(rest, moves, bucket, spot, seed))
+    let moved = shelf.four(bucket)[spot as usize]?;
+    let next = places_of(family, shelf.sizes, &moved.part).other(bucket);
+    let plan = plan_from(family, shelf, rest, next, moved)?;
+    with_step(family, shelf, plan, bucket, spot, held)
 }

@@ -1,41 +1,74 @@
--- The scan of a bucket's slots, from the last to the first, that looks for two parts in one slot.
-use Rattle.std.proofs.Common.{◌≡◌, ℕ, zero, suc, ◌+◌, ◌-◌, ◌<◌, ◌≤◌, Bool, true, false, not, ◌||◌, List, [], ◌∷◌, map, length, get_or, drop, set, sym, refl, ap, ◌∙◌, subst, ap₂, inl, inr, arith, length-set, drop_of_length-le, drop-cons, get_or-set_other, get_or-set_same}
-use Rattle.std.proofs.lemmas.Bool.{cases_eq, eq-eqb, ne_eqb, and_from, and_left, and_right, not_from_false, not_from_true}
+-- The scan of some slots, from the first to the last, that looks for two parts in one slot.
+use Rattle.std.proofs.Common.{◌≡◌, ℕ, zero, suc, eqb, ◌+◌, ◌<◌, Bool, true, false, not, ◌&&◌, ◌||◌, List, [], ◌∷◌, ◌++◌, map, length, get_or, take, drop, set, sym, refl, ap, ◌∙◌, subst, ap₂, inl, inr, arith, append-nil, length-set, get_or-set_other, get_or-set_same}
+use Rattle.std.specs.Prelude.{Option, Some, None}
+use Rattle.std.proofs.lemmas.List.{take_more, take-append-drop}
+use Rattle.std.proofs.lemmas.Bool.{cases_eq, eq-eqb, ne_eqb}
 use Rattle.shared.specs.Kinds.{Hash}
 use Rattle.shared.specs.Lists.{apart, memb}
 use Rattle.shared.specs.Table.{Part, slot_of}
-use Rattle.book_slots.specs.declared.Slot.{Slot}
-use Rattle.book_slots.specs.declared.Slot.TheVariants.{Empty, Held}
+use Rattle.book_slots.specs.declared.Held.{Held}
 use Rattle.book_slots.specs.Slots.{parts}
 
 -- no two of the parts share a slot under the seed
 abbrev pub serves : Hash → List Part → ℕ → Bool
 serves hash ks s = apart (map (slot_of hash s) ks)
 
+-- one number more
+or_swap : (a b c : Bool) → (a || (b || c)) ≡ (b || (a || c))
+or_swap true true c = refl
+or_swap true false c = refl
+or_swap false true c = refl
+or_swap false false c = refl
+
+memb-last : (x y : ℕ) (xs : List ℕ) → memb x (xs ++ (y ∷ [])) ≡ memb x (y ∷ xs)
+memb-last x y [] = refl
+memb-last x y (z ∷ xs) = ap (λ (b : Bool). eqb x z || b) (memb-last x y xs) ∙ or_swap (eqb x z) (eqb x y) (memb x xs)
+
+eqb-comm : (x y : ℕ) → eqb x y ≡ eqb y x
+eqb-comm x y = elim (cases_eq x y) [ inl e ↦ eq-eqb x y e ∙ sym (eq-eqb y x (sym e)) | inr n ↦ ne_eqb x y n ∙ sym (ne_eqb y x (λ e. n (sym e))) ]
+
+not_swap : (a m n c : Bool) → (not (a || m) && (not n && c)) ≡ (not (a || n) && (not m && c))
+not_swap true m n c = refl
+not_swap false true true c = refl
+not_swap false true false c = refl
+not_swap false false true c = refl
+not_swap false false false c = refl
+
+apart-last : (xs : List ℕ) (y : ℕ) → apart (xs ++ (y ∷ [])) ≡ (not (memb y xs) && apart xs)
+apart-last [] y = refl
+apart-last (x ∷ xs) y =
+    ap₂ (λ (b c : Bool). not b && c) (memb-last x y xs) (apart-last xs y)
+    ∙ ap (λ (b : Bool). not (b || memb x xs) && (not (memb y xs) && apart xs)) (eqb-comm x y)
+    ∙ not_swap (eqb y x) (memb x xs) (memb y xs) (apart xs)
+
+-- and if two of the first are the same, two of all are
+not_first : (m n a b : Bool) → (m ≡ true → n ≡ true) → (a ≡ false → b ≡ false) → (not m && a) ≡ false → (not n && b) ≡ false
+not_first true n a b to rest e = ap (λ (c : Bool). not c && b) (to refl)
+not_first false true a b to rest e = refl
+not_first false false a b to rest e = rest e
+
+memb-first : (x : ℕ) (xs ys : List ℕ) → memb x xs ≡ true → memb x (xs ++ ys) ≡ true
+memb-first x [] ys e = cc
+memb-first x (z ∷ xs) ys e = go (eqb x z) (memb-first x xs ys) e
+  where
+    go : (b : Bool) → (memb x xs ≡ true → memb x (xs ++ ys) ≡ true) → (b || memb x xs) ≡ true → (b || memb x (xs ++ ys)) ≡ true
+    go true rest e = refl
+    go false rest e = rest e
+
+apart-first : (xs ys : List ℕ) → apart xs ≡ false → apart (xs ++ ys) ≡ false
+apart-first [] ys e = cc
+apart-first (x ∷ xs) ys e = not_first (memb x xs) (memb x (xs ++ ys)) (apart xs) (apart (xs ++ ys)) (memb-first x xs ys) (apart-first xs ys) e
+
 module _ {P S : Type 0} (f : List ℕ → ℕ) (bytes : P → List ℕ) where
   -- the slots that the parts take
-  abbrev pub taken : List (Slot P S) → List ℕ
+  abbrev pub taken : List (Option (Held P S)) → List ℕ
   taken xs = map f (parts bytes xs)
 
-  taken-empty : (xs : List (Slot P S)) (i : ℕ) → i < length xs → get_or xs i Empty ≡ Empty → taken (drop i xs) ≡ taken (drop (i + 1) xs)
+  taken-append : (xs ys : List (Option (Held P S))) → taken (xs ++ ys) ≡ taken xs ++ taken ys
   unfolding parts
-  taken-empty xs i h e =
-      let s : suc i ≡ i + 1 = omega arith in
-      ap taken (drop-cons xs i Empty h) ∙ ap (λ (x : Slot P S). taken (x ∷ drop (suc i) xs)) e ∙ ap (λ (k : ℕ). taken (drop k xs)) s
-
-  taken-held : (xs : List (Slot P S)) (i : ℕ) (p : P) (v : S) → i < length xs → get_or xs i Empty ≡ Held p v → taken (drop i xs) ≡ f (bytes p) ∷ taken (drop (i + 1) xs)
-  unfolding parts
-  taken-held xs i p v h e =
-      let s : suc i ≡ i + 1 = omega arith in
-      ap taken (drop-cons xs i Empty h) ∙ ap (λ (x : Slot P S). taken (x ∷ drop (suc i) xs)) e ∙ ap (λ (k : ℕ). f (bytes p) ∷ taken (drop k xs)) s
-
-  -- if two of the last parts share a slot, two of all do
-  apart-last : (xs : List (Slot P S)) (i : ℕ) → apart (taken (drop i xs)) ≡ false → apart (taken xs) ≡ false
-  unfolding parts
-  apart-last xs zero e = e
-  apart-last [] (suc i) e = e
-  apart-last (Empty ∷ xs) (suc i) e = apart-last xs i e
-  apart-last (Held p s ∷ xs) (suc i) e = and_right (not (memb (f (bytes p)) (taken xs))) (apart (taken xs)) (apart-last xs i e)
+  taken-append [] ys = refl
+  taken-append (None ∷ xs) ys = taken-append xs ys
+  taken-append (Some h ∷ xs) ys = ap (λ (l : List ℕ). f (bytes h.part) ∷ l) (taken-append xs ys)
 
 -- the flags say which of the four slots are among those taken
 abbrev pub Used : List Bool → List ℕ → Type 0
@@ -55,51 +88,51 @@ used_more used hs h l u x b =
       | inr n ↦ get_or-set_other used h x true false n ∙ u x b ∙ sym (ap (λ (c : Bool). c || memb x hs) (ne_eqb x h n))
     ]
 
-module _ {P S : Type 0} (f : List ℕ → ℕ) (bytes : P → List ℕ) (xs : List (Slot P S)) where
-  -- what holds once the slots from i on are scanned
-  pub record Scan (used : List Bool) (i : ℕ) : Type 0 where
-    pub flags : Used used (taken f bytes (drop i xs))
-    pub clear : apart (taken f bytes (drop i xs)) ≡ true
+module _ {P S : Type 0} (f : List ℕ → ℕ) (bytes : P → List ℕ) (xs : List (Option (Held P S))) where
+  -- what holds once the first n slots are scanned
+  pub record Scan (used : List Bool) (n : ℕ) : Type 0 where
+    pub flags : Used used (taken f bytes (take n xs))
+    pub clear : apart (taken f bytes (take n xs)) ≡ true
     pub four : length used ≡ 4
-    pub inside : i ≤ length xs
 
-  at-hs : (used : List Bool) (i : ℕ) (hs : List ℕ) → taken f bytes (drop i xs) ≡ hs → Used used hs → apart hs ≡ true → length used ≡ 4 → i ≤ length xs → Scan used i
-  at-hs used i hs e u a four le = record {
-    flags = subst (Used used) (sym e) u;
-    clear = ap apart e ∙ a;
-    four = four;
-    inside = le;
-  }
+  -- one slot more, that was read as x
+  one_more : (n : ℕ) (x : Option (Held P S)) → n < length xs → x ≡ get_or xs n x → taken f bytes (take (n + 1) xs) ≡ taken f bytes (take n xs) ++ taken f bytes (x ∷ [])
+  one_more n x h is =
+      ap (taken f bytes) (take_more xs n x h ∙ ap (λ (y : Option (Held P S)). take n xs ++ (y ∷ [])) (sym is)) ∙ taken-append f bytes (take n xs) (x ∷ [])
 
-  pub scan_start : (i : ℕ) → i ≡ length xs → Scan (false ∷ false ∷ false ∷ false ∷ []) i
+  held_more : (n h : ℕ) (x : Option (Held P S)) (p : Held P S) → n < length xs → x ≡ get_or xs n x → x ≡ Some p → h ≡ f (bytes p.part) → taken f bytes (take (n + 1) xs) ≡ taken f bytes (take n xs) ++ (h ∷ [])
   unfolding parts
-  scan_start i e = at-hs (false ∷ false ∷ false ∷ false ∷ []) i [] (ap (taken f bytes) (drop_of_length-le xs {i = i} (omega arith))) used_none refl refl (omega arith)
+  held_more n h x p l is some e =
+      one_more n x l is
+      ∙ ap (λ (y : Option (Held P S)). taken f bytes (take n xs) ++ taken f bytes (y ∷ [])) some
+      ∙ ap (λ (q : ℕ). taken f bytes (take n xs) ++ (q ∷ [])) (sym e)
 
-  back_one : (i : ℕ) → 0 < i → (i - 1) + 1 ≡ i
-  back_one i h = omega arith
+  pub scan_start : Scan (false ∷ false ∷ false ∷ false ∷ []) 0
+  unfolding parts
+  scan_start = record { flags = used_none; clear = refl; four = refl }
 
-  pub scan_empty : (used : List Bool) (i : ℕ) → 0 < i → Empty ≡ get_or xs (i - 1) Empty → Scan used i → Scan used (i - 1)
-  scan_empty used i pos is s =
-      let le : i ≤ length xs = s.inside in
-      at-hs used (i - 1) (taken f bytes (drop i xs))
-      (taken-empty f bytes xs (i - 1) (omega arith) (sym is) ∙ ap (λ (k : ℕ). taken f bytes (drop k xs)) (back_one i pos))
-      s.flags s.clear s.four (omega arith)
+  pub scan_empty : (used : List Bool) (n : ℕ) (x : Option (Held P S)) → n < length xs → x ≡ get_or xs n x → x ≡ None → Scan used n → Scan used (n + 1)
+  unfolding parts
+  scan_empty used n x l is empty s =
+      let e : taken f bytes (take (n + 1) xs) ≡ taken f bytes (take n xs) =
+      one_more n x l is ∙ ap (λ (y : Option (Held P S)). taken f bytes (take n xs) ++ taken f bytes (y ∷ [])) empty ∙ append-nil (taken f bytes (take n xs)) in
+      record { flags = subst (Used used) (sym e) s.flags; clear = ap apart e ∙ s.clear; four = s.four }
 
-  held-hs : (i h : ℕ) (p : P) (v : S) → 0 < i → Held p v ≡ get_or xs (i - 1) Empty → h ≡ f (bytes p) → i ≤ length xs → taken f bytes (drop (i - 1) xs) ≡ h ∷ taken f bytes (drop i xs)
-  held-hs i h p v pos is eh le =
-      taken-held f bytes xs (i - 1) p v (omega arith) (sym is) ∙ ap₂ (λ (a k : ℕ). a ∷ taken f bytes (drop k xs)) (sym eh) (back_one i pos)
+  pub scan_held : (used : List Bool) (n h : ℕ) (x : Option (Held P S)) (p : Held P S) → n < length xs → x ≡ get_or xs n x → x ≡ Some p → h ≡ f (bytes p.part) → h < 4 → get_or used h false ≡ false → Scan used n → Scan (set used h true) (n + 1)
+  scan_held used n h x p l is some eh low free s =
+      let hs = taken f bytes (take n xs) in
+      let e : taken f bytes (take (n + 1) xs) ≡ hs ++ (h ∷ []) = held_more n h x p l is some eh in
+      let long : length used ≡ 4 = s.four in
+      record {
+        flags = λ q b. used_more used hs h (omega arith) s.flags q b ∙ sym (memb-last q h hs) ∙ sym (ap (memb q) e);
+        clear = ap apart e ∙ apart-last hs h ∙ ap₂ (λ (m a : Bool). not m && a) (sym (s.flags h low) ∙ free) s.clear;
+        four = length-set used h true ∙ s.four;
+      }
 
-  pub scan_held : (used : List Bool) (i h : ℕ) (p : P) (v : S) → 0 < i → Held p v ≡ get_or xs (i - 1) Empty → h ≡ f (bytes p) → h < 4 → get_or used h false ≡ false → Scan used i → Scan (set used h true) (i - 1)
-  scan_held used i h p v pos is eh lt free s =
-      let le : i ≤ length xs = s.inside in
-      let four : length used ≡ 4 = s.four in
-      at-hs (set used h true) (i - 1) (h ∷ taken f bytes (drop i xs)) (held-hs i h p v pos is eh le)
-      (used_more used _ h (omega arith) s.flags) (and_from _ _ (not_from_false _ (sym (s.flags h lt) ∙ free)) s.clear) (length-set used h true ∙ four) (omega arith)
-
-  -- two parts in one slot, and none to the end
-  pub scan_clash : (used : List Bool) (i h : ℕ) (p : P) (v : S) → 0 < i → Held p v ≡ get_or xs (i - 1) Empty → h ≡ f (bytes p) → h < 4 → get_or used h false ≡ true → Scan used i → false ≡ apart (taken f bytes xs)
-  scan_clash used i h p v pos is eh lt full s =
-      sym (apart-last f bytes xs (i - 1) (ap apart (held-hs i h p v pos is eh s.inside) ∙ and_left _ _ (not_from_true _ (sym (s.flags h lt) ∙ full))))
-
-  pub scan_end : (used : List Bool) (i : ℕ) → i ≤ 0 → Scan used i → true ≡ apart (taken f bytes xs)
-  scan_end used i h s = let z : i ≡ 0 = omega arith in sym s.clear ∙ ap (λ (k : ℕ). apart (taken f bytes (drop k xs))) z
+  -- two parts in one slot
+  pub scan_clash : (used : List Bool) (n h : ℕ) (x : Option (Held P S)) (p : Held P S) → n < length xs → x ≡ get_or xs n x → x ≡ Some p → h ≡ f (bytes p.part) → h < 4 → get_or used h false ≡ true → Scan used n → false ≡ apart (taken f bytes xs)
+  scan_clash used n h x p l is some eh low full s =
+      let hs = taken f bytes (take n xs) in
+      let two : apart (taken f bytes (take (n + 1) xs)) ≡ false =
+      ap apart (held_more n h x p l is some eh) ∙ apart-last hs h ∙ ap (λ (m : Bool). not m && apart hs) (sym (s.flags h low) ∙ full) in
+      sym (ap (λ (ys : List (Option (Held P S))). apart (taken f bytes ys)) (sym (take-append-drop (n + 1) xs)) ∙ ap apart (taken-append f bytes (take (n + 1) xs) (drop (n + 1) xs)) ∙ apart-first (taken f bytes (take (n + 1) xs)) (taken f bytes (drop (n + 1) xs)) two)

@@ -1,97 +1,72 @@
 // The seed of a bucket: the least under which each of its parts has a slot of its own.
 #![tactic(auto)]
 
-ghost use Rattle.std.specs.Prelude.{◌≡◌, ◌+◌, ◌*◌, ◌<◌, ◌≤◌, map, length, slice_index_or, slice_set};
+ghost use Rattle.std.specs.Prelude.{◌≡◌, ◌+◌, ◌*◌, ◌<◌, ◌≤◌, length, map};
 ghost use Rattle.std.proofs.Math.Option.{some};
 ghost use Rattle.shared.specs.Answers.{optional};
 ghost use Rattle.shared.specs.Book.{seed_for, contents, part_of};
 ghost use Rattle.shared.specs.Lists.{apart, at2};
 ghost use Rattle.shared.specs.Table.{slot_of};
-ghost use Rattle.book_slots.specs.Slots.{slot_in, parts};
-ghost use Rattle.book_slots.specs.declared.Slot.TheVariants.{Empty, Held};
+ghost use Rattle.book_slots.specs.Slots.{held_as, slot_in, parts};
 
-use book_slots::Slot;
+use book_slots::{Held, Slot, four_in};
 use shared::kinds::{HashFamily, PartKind, SettingKind};
 use shared_places::slot_under;
 
-// Slot i of a bucket that has the part in its slot `slot`.
-fn slot_with<P: PartKind, S: SettingKind>(
-    four: &[Slot<P, S>],
-    slot: usize,
-    part: P,
-    setting: S,
-    i: usize,
-) -> Slot<P, S>
-    requires { i < length four.now }
-    ensures { result ≡ slice_index_or (slice_set four.now slot (Held part setting)) i Empty }
-{
-    if i == slot {
-        Slot::Held { part, setting }
-    } else {
-        four[i]
-    }
-}
-
-// Whether no two parts of a bucket that has the part in its slot `slot` share a slot under the seed.
-fn apart_with<F: HashFamily, P: PartKind, S: SettingKind>(
+// Whether no two parts of the slots share a slot under the seed.
+fn apart_under<F: HashFamily, P: PartKind, S: SettingKind>(
     family: &F,
     seed: u8,
-    four: &[Slot<P, S>],
-    slot: usize,
-    part: P,
-    setting: S,
+    slots: &[Slot<P, S>],
 ) -> bool
-    ensures { result ≡ apart (map (slot_of (F.HashFamily.hash family.now) seed) (parts P.PartKind.bytes (slice_set four.now slot (Held part setting)))) }
+    ensures { result ≡ apart (map (slot_of (F.HashFamily.hash family.now) seed) (parts P.PartKind.bytes slots.now)) }
 {
     let mut used = [false; 4];
-    for i in (0..four.len()).rev() {
-        if let Slot::Held { part: held, .. } = slot_with(four, slot, part, setting, i) {
-            let taken = slot_under(family, seed, &held);
-            if used[taken] {
-                return false;
-            }
-            used[taken] = true;
+    for slot in slots {
+        let Some(held) = slot else {
+            continue;
+        };
+        let taken = slot_under(family, seed, &held.part);
+        if used[taken] {
+            return false;
         }
+        used[taken] = true;
     }
     true
 }
 
-// The least seed of a bucket that has the part in its slot `slot`.
-fn least_with<F: HashFamily, P: PartKind, S: SettingKind>(
+// The least seed under which no two parts of the slots share a slot.
+fn least_seed<F: HashFamily, P: PartKind, S: SettingKind>(
     family: &F,
-    four: &[Slot<P, S>],
-    slot: usize,
-    part: P,
-    setting: S,
+    slots: &[Slot<P, S>],
 ) -> Option<u8>
-    ensures { optional result ≡ seed_for (F.HashFamily.hash family.now) (parts P.PartKind.bytes (slice_set four.now slot (Held part setting))) }
+    ensures { optional result ≡ seed_for (F.HashFamily.hash family.now) (parts P.PartKind.bytes slots.now) }
 {
+    // A `for`: `find` was tried, and the proof did not close.
     for seed in 0..=255 {
-        if apart_with(family, seed, four, slot, part, setting) {
+        if apart_under(family, seed, slots) {
             return Some(seed);
         }
     }
     None
 }
 
-// The least seed of the bucket once it has the part in its slot `slot`, or none where no seed serves.
+// The least seed of the bucket once its slot `spot` holds the part, or none where no seed serves.
 pub fn seed_with<F: HashFamily, P: PartKind, S: SettingKind>(
     family: &F,
     slots: &[Slot<P, S>],
     bucket: u32,
-    slot: u8,
-    part: P,
-    setting: S,
+    spot: u8,
+    held: Held<P, S>,
 ) -> Option<u8>
-    requires { (4 * bucket + 4 ≤ length slots.now) × (slot < 4) }
-    ensures { optional result ≡ seed_for (F.HashFamily.hash family.now) (map part_of (contents (at2 (slot_in P.PartKind.bytes S.SettingKind.numbers slots.now) bucket slot (some (P.PartKind.bytes part, S.SettingKind.numbers setting))) bucket)) }
+    requires into { 4 * bucket + 4 ≤ length slots.now }
+    requires spot { spot < 4 }
+    ensures { optional result ≡ seed_for (F.HashFamily.hash family.now) (map part_of (contents (at2 (slot_in P.PartKind.bytes S.SettingKind.numbers slots.now) bucket spot (some (held_as P.PartKind.bytes S.SettingKind.numbers held))) bucket)) }
 {
-    let start = 4 * bucket as usize;
-    least_with(
-        family,
-        &slots[start..start + 4],
-        slot as usize,
-        part,
-        setting,
-    )
+    // Not a method of the shelf: tried, and the proof did not close, since no kind tells that an array of four slots fits in
+    // memory.
+    let mut four = [None; 4];
+    four.copy_from_slice(four_in(slots, bucket));
+    four[spot as usize] = Some(held);
+    least_seed(family, &four)
 }

@@ -19,11 +19,6 @@ spot_at slot k j i = slot j i then (λ h. cond (same_list k h.0) (some (j, i)) n
 abbrev pub spot_in : (ℕ → ℕ → Slot) → Part → ℕ → Option (ℕ × ℕ)
 spot_in slot k j = first_answer (spot_at slot k j) 0 4
 
--- a slot found in bucket j, with its bucket
-abbrev pub in_bucket : ℕ → CodeOption ℕ → Option (ℕ × ℕ)
-in_bucket j (Some i) = some (j, i)
-in_bucket j None = none
-
 -- a spot as the rules have it: bucket and slot
 abbrev pub spot_of : CodeOption Spot → Option (ℕ × ℕ)
 spot_of (Some p) = some (p.bucket, p.slot)

@@ -13,7 +13,7 @@ use Rattle.chain_laws.proofs.Ranges.{up_append, map-up}
 use Rattle.chain_laws.proofs.Tools.{kept-up}
 use Rattle.book_flips.specs.Words.{Words}
 use Rattle.book_flips.proofs.Words.{word_turned}
-use Rattle.book_steps.specs.declared.plan.Plan.{Plan}
+use Rattle.book_steps.specs.declared.plan.Placing.{Placing}
 use Rattle.book_steps.specs.Plans.{placement_at, placements_of, flagged, flagged_from, values_at, shown_step, shown_steps}
 
 kept_append : {A : Type 0} (t : A → Bool) (xs ys : List A) → kept t (xs ++ ys) ≡ kept t xs ++ kept t ys
@@ -108,7 +108,7 @@ module _ (z : Sizes) (hash : Hash) (blank : Setting) (slot : ℕ → ℕ → Slo
       (sym (ap (λ (m : ℕ). step_over z hash blank slot (p i) (get_or (ts ∷ tss) m [])) first))
       (steps-at p (suc i) n tss (omega arith) ∙ map-up _ _ (suc i) n (λ k a b. ap (step_over z hash blank slot (p k)) (later ts tss i k a)))
 
-  module _ (plan : Plan) (h : Held) (words : List ℕ) (row : ℕ → Bool) (tss : List (List ℕ)) (own : Words (z.a + z.b) row tss words) (ranged : (k : ℕ) → Ranged (z.a + z.b) (get_or tss k [])) where
+  module _ (plan : List Placing) (h : Held) (words : List ℕ) (row : ℕ → Bool) (tss : List (List ℕ)) (own : Words (z.a + z.b) row tss words) (ranged : (k : ℕ) → Ranged (z.a + z.b) (get_or tss k [])) where
     -- a flag tells what the step's places are
     flag_is : (k p : ℕ) → k < length tss → p < z.a + z.b → flagged words k p ≡ (ranged k).0 p
     flag_is k p few h =
@@ -136,8 +136,8 @@ module _ (z : Sizes) (hash : Hash) (blank : Setting) (slot : ℕ → ℕ → Slo
         ap₂ (λ (pa pb : List ℕ). bucket p.into p.seed (map (values_at z hash blank slot plan h words k) (0 ∷ 1 ∷ 2 ∷ 3 ∷ [])) pa pb) (low_flags k few) (high_flags k few)
 
     -- the steps that are shown are those of the placements with their turns
-    pub steps-shown : length tss ≡ suc plan.moves → shown_steps z hash blank slot plan h words ≡ steps_over z hash blank slot (placements_of slot plan h) tss
+    pub steps-shown : length tss ≡ length plan → shown_steps z hash blank slot plan h words ≡ steps_over z hash blank slot (placements_of slot plan h) tss
     steps-shown e =
-        map-up (shown_step z hash blank slot plan h words) (λ k. step_over z hash blank slot (placement_at slot plan h k) (get_or tss (k - 0) [])) 0 (suc plan.moves)
+        map-up (shown_step z hash blank slot plan h words) (λ k. step_over z hash blank slot (placement_at slot plan h k) (get_or tss (k - 0) [])) 0 (length plan)
         (λ k a b. let s : k ≡ k - 0 = omega arith in step-at k (omega arith) ∙ ap (λ (m : ℕ). step_over z hash blank slot (placement_at slot plan h k) (get_or tss m [])) s)
-        ∙ sym (steps-at (placement_at slot plan h) 0 (suc plan.moves) tss e)
+        ∙ sym (steps-at (placement_at slot plan h) 0 (length plan) tss e)

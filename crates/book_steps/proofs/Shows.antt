@@ -1,39 +1,34 @@
 -- What a pass is shown, one piece after the other.
-use Rattle.std.proofs.Common.{◌≡◌, ℕ, suc, ◌+◌, ◌-◌, ◌<◌, ◌≤◌, Bool, true, false, cond, eqb, List, [], ◌∷◌, ◌++◌, map, get_or, drop, fold, sym, ap, ◌∙◌, ap₂, arith}
-use mathlib.Core.Option.{some}
-use Rattle.std.proofs.lemmas.Bool.{cond-false, ne_eqb}
-use Rattle.shared.specs.Book.{Held, Slot}
+use Rattle.std.proofs.Common.{◌≡◌, ℕ, zero, suc, ◌+◌, ◌-◌, ◌/◌, ◌%◌, ◌^◌, ◌<◌, ◌≤◌, Bool, true, false, cond, eqb, List, [], ◌∷◌, ◌++◌, map, length, take, drop, fold, sym, refl, ap, ◌∙◌, ap₂, zero-add, arith, length-take, length-drop}
+use Rattle.std.proofs.lemmas.List.{get_or-drop, get_or-take}
 use Rattle.shared.specs.Lists.{up_from, kept}
 use Rattle.shared.specs.Notice.{Setting, Step, bucket}
 use Rattle.chain_laws.proofs.Ranges.{up_more, up_none}
 use Rattle.shared_text.specs.Events.{Event, begin_bucket, setting_at, row_a, row_b, flip, end_bucket, settings_from, step_events, events_of}
-use Rattle.shared_text.proofs.Folds.{folded_append}
-use Rattle.book_steps.specs.declared.plan.Plan.{Plan}
+use Rattle.std.proofs.lemmas.List.Sums.{fold-append}
 use Rattle.book_steps.proofs.Fours.{four, four-more, four-end}
-use Rattle.book_steps.specs.Plans.{held_or, held_at, flagged}
+use Rattle.book_steps.specs.Plans.{flagged, flagged_from}
 
--- the part that the next step's slot holds
-pub held_next : (slot : ℕ → ℕ → Slot) (plan : Plan) (h g : Held) (k : ℕ) → (k ≡ plan.moves → ⊥) → slot (get_or plan.buckets (k + 1) 0) (get_or plan.spots (k + 1) 0) ≡ some g → g ≡ held_at slot plan h k
-held_next slot plan h g k n e = sym (cond-false (eqb k plan.moves) _ _ (ne_eqb k _ n) ∙ ap (held_or h) e)
-
-module _ {V : Type 0} (after : V → Event → V) (words : List ℕ) (step first end : ℕ) where
+module _ {V : Type 0} (after : V → Event → V) (words : List ℕ) (step : ℕ) where
   -- the flagged places from p on
   abbrev pub rest : ℕ → List Event
-  rest p = map flip (map (λ q. q - first) (kept (flagged words step) (up_from p (end - p))))
+  rest p = map flip (map (λ q. q - 0) (kept (flagged words step) (up_from p (length words - p))))
 
-  at_place : (p : ℕ) (b : Bool) → p < end → b ≡ flagged words step p → rest p ≡ map flip (map (λ q. q - first) (cond b (p ∷ kept (flagged words step) (up_from (p + 1) (end - (p + 1)))) (kept (flagged words step) (up_from (p + 1) (end - (p + 1))))))
+  at_place : (p : ℕ) (b : Bool) → p < length words → b ≡ flagged words step p → rest p ≡ map flip (map (λ q. q - 0) (cond b (p ∷ kept (flagged words step) (up_from (p + 1) (length words - (p + 1)))) (kept (flagged words step) (up_from (p + 1) (length words - (p + 1))))))
   at_place p b h e =
-      ap (λ (l : List ℕ). map flip (map (λ q. q - first) (kept (flagged words step) l))) (up_more p end h)
-      ∙ ap (λ (c : Bool). map flip (map (λ q. q - first) (cond c (p ∷ kept (flagged words step) (up_from (p + 1) (end - (p + 1)))) (kept (flagged words step) (up_from (p + 1) (end - (p + 1))))))) (sym e)
+      ap (λ (l : List ℕ). map flip (map (λ q. q - 0) (kept (flagged words step) l))) (up_more p (length words) h)
+      ∙ ap (λ (c : Bool). map flip (map (λ q. q - 0) (cond c (p ∷ kept (flagged words step) (up_from (p + 1) (length words - (p + 1)))) (kept (flagged words step) (up_from (p + 1) (length words - (p + 1))))))) (sym e)
 
-  pub row-flip : (p : ℕ) (v : V) → p < end → true ≡ flagged words step p → fold after v (rest p) ≡ fold after (after v (flip (p - first))) (rest (p + 1))
-  row-flip p v h e = ap (fold after v) (at_place p true h e)
+  pub row-flip : (p : ℕ) (v : V) → p < length words → true ≡ flagged words step p → fold after v (rest p) ≡ fold after (after v (flip p)) (rest (p + 1))
+  row-flip p v h e =
+      let s : p - 0 ≡ p = omega arith in
+      ap (fold after v) (at_place p true h e) ∙ ap (λ (q : ℕ). fold after (after v (flip q)) (rest (p + 1))) s
 
-  pub row-pass : (p : ℕ) (v : V) → p < end → false ≡ flagged words step p → fold after v (rest p) ≡ fold after v (rest (p + 1))
+  pub row-pass : (p : ℕ) (v : V) → p < length words → false ≡ flagged words step p → fold after v (rest p) ≡ fold after v (rest (p + 1))
   row-pass p v h e = ap (fold after v) (at_place p false h e)
 
-  pub row-end : (p : ℕ) (v : V) → end ≤ p → fold after v (rest p) ≡ v
-  row-end p v h = ap (λ (l : List ℕ). fold after v (map flip (map (λ q. q - first) (kept (flagged words step) l)))) (up_none p end h)
+  pub row-end : (p : ℕ) (v : V) → length words ≤ p → fold after v (rest p) ≡ v
+  row-end p v h = ap (λ (l : List ℕ). fold after v (map flip (map (λ q. q - 0) (kept (flagged words step) l)))) (up_none p (length words) h)
 
 -- the settings from slot k on
 module _ {V : Type 0} (after : V → Event → V) (f : ℕ → Setting) where
@@ -55,7 +50,7 @@ module _ {V : Type 0} (after : V → Event → V) (f : ℕ → Step) (n : ℕ) w
   steps k = events_of (map f (up_from k (n - k)))
 
   pub steps-more : (k : ℕ) (v : V) → k < n → fold after v (steps k) ≡ fold after (fold after v (step_events (f k))) (steps (k + 1))
-  steps-more k v h = ap (λ (l : List ℕ). fold after v (events_of (map f l))) (up_more k n h) ∙ folded_append after v (step_events (f k)) (steps (k + 1))
+  steps-more k v h = ap (λ (l : List ℕ). fold after v (events_of (map f l))) (up_more k n h) ∙ fold-append after v (step_events (f k)) (steps (k + 1))
 
   pub steps-end : (k : ℕ) (v : V) → n ≤ k → fold after v (steps k) ≡ v
   steps-end k v h = ap (λ (l : List ℕ). fold after v (events_of (map f l))) (up_none k n h)
@@ -68,9 +63,40 @@ pub step-shown : {V : Type 0} (after : V → Event → V) (v : V) (j s : ℕ) (v
     → fold after v (step_events (bucket j s vs pa pb))
     ≡ after (fold after (after (fold after (after (fold after (after v (begin_bucket j s)) (settings_from 0 vs)) row_a) (map flip pa)) row_b) (map flip pb)) end_bucket
 step-shown after v j s vs pa pb =
-    folded_append after (after v (begin_bucket j s)) (settings_from 0 vs) (row_a ∷ (map flip pa ++ (row_b ∷ (map flip pb ++ (end_bucket ∷ [])))))
-    ∙ folded_append after _ (map flip pa) (row_b ∷ (map flip pb ++ (end_bucket ∷ [])))
-    ∙ folded_append after _ (map flip pb) (end_bucket ∷ [])
+    fold-append after (after v (begin_bucket j s)) (settings_from 0 vs) (row_a ∷ (map flip pa ++ (row_b ∷ (map flip pb ++ (end_bucket ∷ [])))))
+    ∙ fold-append after _ (map flip pa) (row_b ∷ (map flip pb ++ (end_bucket ∷ [])))
+    ∙ fold-append after _ (map flip pb) (end_bucket ∷ [])
+
+-- the flagged places of a part of the words that begins at a
+moved-kept : (us ws : List ℕ) (k a i n : ℕ) → ((p : ℕ) → i ≤ p → p < i + n → flagged us k p ≡ flagged ws k (a + p)) → map (λ p. p - 0) (kept (flagged us k) (up_from i n)) ≡ map (λ p. p - a) (kept (flagged ws k) (up_from (a + i) n))
+moved-kept us ws k a i zero h = refl
+moved-kept us ws k a i (suc n) h = go (flagged us k i) (flagged ws k (a + i)) (h i (omega arith) (omega arith)) (moved-kept us ws k a (suc i) n (λ p l m. h p (omega arith) (omega arith)))
+  where
+    onward : map (λ p. p - a) (kept (flagged ws k) (up_from (a + suc i) n)) ≡ map (λ p. p - a) (kept (flagged ws k) (up_from (suc (a + i)) n))
+    onward = let next : a + suc i ≡ suc (a + i) = omega arith in ap (λ (j : ℕ). map (λ p. p - a) (kept (flagged ws k) (up_from j n))) next
+
+    go : (b c : Bool) → b ≡ c → map (λ p. p - 0) (kept (flagged us k) (up_from (suc i) n)) ≡ map (λ p. p - a) (kept (flagged ws k) (up_from (a + suc i) n))
+        → map (λ p. p - 0) (cond b (i ∷ kept (flagged us k) (up_from (suc i) n)) (kept (flagged us k) (up_from (suc i) n)))
+        ≡ map (λ p. p - a) (cond c ((a + i) ∷ kept (flagged ws k) (up_from (suc (a + i)) n)) (kept (flagged ws k) (up_from (suc (a + i)) n)))
+    go true true e rest = let first : i - 0 ≡ a + i - a = omega arith in ap₂ (λ (p : ℕ) (l : List ℕ). p ∷ l) first (rest ∙ onward)
+    go false false e rest = rest ∙ onward
+    go true false e rest = cc
+    go false true e rest = cc
+
+-- the flagged places of the two parts of the words
+pub row-a : (ws : List ℕ) (k a : ℕ) → a ≤ length ws → flagged_from (take a ws) k 0 (length (take a ws)) ≡ flagged_from ws k 0 a
+row-a ws k a h =
+    let all : length (take a ws) ≡ a = omega (arith, length-take a ws) in
+    ap (flagged_from (take a ws) k 0) all
+    ∙ moved-kept (take a ws) ws k 0 0 a (λ p l m. ap (λ (w : ℕ). eqb (w / 2 / 2 ^ k % 2) 1) (get_or-take a ws p 0 (omega arith)) ∙ ap (flagged ws k) (sym (zero-add p)))
+
+pub row-b : (ws : List ℕ) (k a b : ℕ) → length ws ≡ a + b → flagged_from (drop a ws) k 0 (length (drop a ws)) ≡ flagged_from ws k a b
+row-b ws k a b h =
+    let all : length (drop a ws) ≡ b = omega (arith, length-drop a ws) in
+    let start : a + 0 ≡ a = omega arith in
+    ap (flagged_from (drop a ws) k 0) all
+    ∙ moved-kept (drop a ws) ws k a 0 b (λ p l m. ap (λ (w : ℕ). eqb (w / 2 / 2 ^ k % 2) 1) (get_or-drop a ws p 0))
+    ∙ ap (λ (i : ℕ). map (λ p. p - a) (kept (flagged ws k) (up_from i b))) start
 
 pub step-pieces : {V : Type 0} (after : V → Event → V) (v0 v1 v2 v3 v4 v5 v6 v7 : V) (j s s' : ℕ) (vs vs' : List Setting) (pa pa' pb pb' : List ℕ)
     → v1 ≡ after v0 (begin_bucket j s') → s' ≡ s → v2 ≡ fold after v1 (settings_from 0 vs') → vs' ≡ vs

@@ -1,58 +1,28 @@
-// A bucket once a part has come into it.
-ghost use Rattle.std.specs.Prelude.{◌≡◌, ◌+◌, ◌*◌, ◌<◌, ◌≤◌, length};
-ghost use Rattle.std.proofs.Math.Option.{some};
-ghost use Rattle.shared.specs.Book.{value_at};
-ghost use Rattle.shared.specs.Lists.{at2};
-ghost use Rattle.chain_laws.specs.Plans.{filled};
-ghost use Rattle.book_slots.specs.Slots.{viewed, slot_in};
+// The setting that stands in a bucket's slot once a seed has spread the parts over the slots.
+ghost use Rattle.std.specs.Prelude.{◌≡◌, map};
+ghost use Rattle.shared.specs.Book.{held_in, value_at};
+ghost use Rattle.book_slots.specs.Slots.{viewed};
 
 use book_slots::Slot;
 use shared::kinds::{HashFamily, PartKind, SettingKind};
 use shared_places::slot_under;
 
-// Slot `k` of the bucket, with the part in its slot `spot`.
-fn slot_with<P: PartKind, S: SettingKind>(
-    slots: &[Slot<P, S>],
-    bucket: u32,
-    spot: u8,
-    part: P,
-    setting: S,
-    k: usize,
-) -> Slot<P, S>
-    requires { (4 * bucket + 4 ≤ length slots.now) × (k < 4) }
-    ensures { viewed P.PartKind.bytes S.SettingKind.numbers result ≡ at2 (slot_in P.PartKind.bytes S.SettingKind.numbers slots.now) bucket spot (some (P.PartKind.bytes part, S.SettingKind.numbers setting)) bucket k }
-{
-    if k == spot as usize {
-        Slot::Held { part, setting }
-    } else {
-        slots[4 * bucket as usize + k]
-    }
-}
-
-// The setting that a step writes into slot `place` of the bucket: that of the part which has this slot under the seed, or the
-// blank.
+// The setting for slot `place` of a bucket that holds these: that of the part which has this slot under the seed, or the blank.
 pub(crate) fn setting_under<F: HashFamily, P: PartKind, S: SettingKind>(
     family: &F,
-    slots: &[Slot<P, S>],
-    bucket: u32,
-    spot: u8,
-    part: P,
-    setting: S,
+    four: &[Slot<P, S>],
     seed: u8,
     place: usize,
 ) -> S
-    requires { 4 * bucket + 4 ≤ length slots.now }
-    ensures { S.SettingKind.numbers result ≡ value_at (F.HashFamily.hash family.now) S.SettingKind.blanks seed (filled (slot_in P.PartKind.bytes S.SettingKind.numbers slots.now) bucket spot (P.PartKind.bytes part, S.SettingKind.numbers setting)) place }
+    ensures { S.SettingKind.numbers result ≡ value_at (F.HashFamily.hash family.now) S.SettingKind.blanks seed (held_in (map (viewed P.PartKind.bytes S.SettingKind.numbers) four.now)) place }
 {
-    for k in 0..4 {
-        if let Slot::Held {
-            part: held,
-            setting: own,
-        } = slot_with(slots, bucket, spot, part, setting, k)
-        {
-            if slot_under(family, seed, &held) == place {
-                return own;
-            }
+    // Tried as `flatten` and `find`, and the proof did not close.
+    for slot in four {
+        let Some(held) = slot else {
+            continue;
+        };
+        if slot_under(family, seed, &held.part) == place {
+            return held.setting;
         }
     }
     S::blank()

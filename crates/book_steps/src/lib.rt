@@ -1,4 +1,4 @@
-// The steps of a planned enter, shown piece by piece to a pass: a pen writes them, a ruler measures them.
+// The steps of a planned enter, shown piece by piece to a pass: a printer puts them into a pen or a ruler.
 #![tactic(auto)]
 
 mod bucket;

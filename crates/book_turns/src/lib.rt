@@ -1,26 +1,38 @@
 // Which places the steps of an enter turn over.
 #![tactic(auto)]
 
-ghost use Rattle.std.specs.Prelude.{◌≡◌, ◌+◌, ◌*◌, ◌%◌, ◌<◌, not, length, ◌==◌, slice_index};
+ghost use Rattle.std.specs.Prelude.{◌≡◌, ◌+◌, ◌%◌, ◌<◌, not, length, ◌==◌, slice_index};
 ghost use Rattle.shared.specs.Graph.{◌⊕◌};
 ghost use Rattle.shared.specs.Table.{edge};
-ghost use Rattle.book_slots.specs.Slots.{parts, slot_in};
+ghost use Rattle.book_slots.specs.Slots.{held_as, parts, slot_in};
 ghost use Rattle.book_steps.specs.Plans.{Fit, placements_of};
 ghost use Rattle.book_joined.specs.Ends.{Ends};
 ghost use Rattle.book_turns.specs.Turning.{Low, TurnsOne, Bits, TurnsAll};
+ghost use Rattle.book_turns.specs.Spaces.{Cut, SameSpace};
 
 use book_flips::stamp;
 use book_joined::{leave_out, mark_joined};
-use book_slots::Slot;
-use book_steps::plan::Plan;
+use book_slots::{Held, Shelf};
+use book_steps::plan::Placing;
 use book_steps::show::arriving;
 use shared::kinds::{HashFamily, PartKind, SettingKind};
-use shared::sizes::Sizes;
 use shared_places::{Places, places_of};
+
+// What an enter works in: a word and a mark for each place of the rows, and twice the two ends of each slot's edge. Rows of
+// 32-bit words, as a book lends them: a mark is 0 or 1 in a word, and a pair is an array, so that words can be cut into
+// pairs. No ghost field tells the lengths, since a workspace does not know the sizes.
+#[derive(Debug, Drop)]
+pub struct Workspace<'a> {
+    pub words: &'a mut [u32],
+    pub marks: &'a mut [u32],
+    pub ends: &'a mut [[u32; 2]],
+    pub kept: &'a mut [[u32; 2]],
+}
 
 // Whether the part's bit, as the words have it, is another than the one that leads to the bucket.
 fn must_turn(words: &[u32], places: Places, bucket: u32) -> bool
-    requires { (places.a < length words.now) × (places.b < length words.now) }
+    requires a { places.a < length words.now }
+    requires b { places.b < length words.now }
     ensures { result ≡ not (slice_index words.now places.a % 2 == slice_index words.now places.b % 2) ⊕ not (places.first == bucket) }
 {
     let bit = words[places.a as usize] % 2 != words[places.b as usize] % 2;
@@ -29,32 +41,34 @@ fn must_turn(words: &[u32], places: Places, bucket: u32) -> bool
 }
 
 // Turns over in the words what the part needs to be found in the bucket: if its bit is the other one, the places that the
-// edges of all other standing parts join to its place in row b.
+// edges of all other standing parts join to its place in row b. Six parameters: a part and a bucket are all that it needs of
+// the plan.
 fn turn_step<F: HashFamily, P: PartKind, S: SettingKind>(
     family: &F,
-    sizes: Sizes,
-    slots: &[Slot<P, S>],
+    shelf: &Shelf<'_, P, S>,
     part: &P,
     bucket: u32,
     step: usize,
-    ends_a: &[u32],
-    ends_b: &[u32],
-    kept_a: &mut [u32],
-    kept_b: &mut [u32],
-    marks: &mut [u32],
-    words: &mut [u32],
+    space: &mut Workspace<'_>,
 )
-    requires cached { Ends (edge sizes (F.HashFamily.hash family.now)) P.PartKind.bytes slots.now ends_a.now ends_b.now }
-    requires kept { (length kept_a.old ≡ length slots.now) × (length kept_b.old ≡ length slots.now) }
-    requires long { (length marks.old ≡ sizes.a + sizes.b) × (length words.old ≡ sizes.a + sizes.b) }
+    requires cached { Ends (edge shelf.now.sizes (F.HashFamily.hash family.now)) P.PartKind.bytes shelf.now.slots.now space.old.ends.now }
+    requires cut { Cut shelf.now.sizes space.old }
     requires few { step < 5 }
-    requires low { Low words.old }
-    ensures { TurnsOne sizes (F.HashFamily.hash family.now) S.SettingKind.blanks (parts P.PartKind.bytes slots.now) step bucket (P.PartKind.bytes part.now) words.old words.new }
+    requires low { Low space.old.words.now }
+    ensures turns { TurnsOne shelf.now.sizes (F.HashFamily.hash family.now) S.SettingKind.blanks (parts P.PartKind.bytes shelf.now.slots.now) step bucket (P.PartKind.bytes part.now) space.old.words.now space.new.words.now }
+    ensures ends { space.new.ends.now ≡ space.old.ends.now }
+    ensures cut { Cut shelf.now.sizes space.new }
+    ensures loans { SameSpace space.new space.old }
 {
-    let places = places_of(family, sizes, part);
+    let places = places_of(family, shelf.sizes, part);
+    // each slice is borrowed by itself: the check covers no call that reads one and is lent another
+    let words = &mut *space.words;
     if must_turn(words, places, bucket) {
-        leave_out(slots, part, ends_a, ends_b, kept_a, kept_b);
-        mark_joined(kept_a, kept_b, places.b, marks);
+        let ends = &mut *space.ends;
+        let kept = &mut *space.kept;
+        let marks = &mut *space.marks;
+        leave_out(shelf.slots, part, ends, kept);
+        mark_joined(kept, places.b, marks);
         stamp(words, marks, step);
     }
 }
@@ -63,31 +77,23 @@ fn turn_step<F: HashFamily, P: PartKind, S: SettingKind>(
 // first.
 pub fn turn_places<F: HashFamily, P: PartKind, S: SettingKind>(
     family: &F,
-    sizes: Sizes,
-    slots: &[Slot<P, S>],
-    plan: Plan,
-    part: P,
-    setting: S,
-    ends_a: &[u32],
-    ends_b: &[u32],
-    kept_a: &mut [u32],
-    kept_b: &mut [u32],
-    marks: &mut [u32],
-    words: &mut [u32],
+    shelf: &Shelf<'_, P, S>,
+    plan: &[Placing],
+    held: Held<P, S>,
+    space: &mut Workspace<'_>,
 )
-    requires slots { length slots.now ≡ 4 * sizes.buckets }
-    requires fit { Fit sizes plan }
-    requires cached { Ends (edge sizes (F.HashFamily.hash family.now)) P.PartKind.bytes slots.now ends_a.now ends_b.now }
-    requires kept { (length kept_a.old ≡ length slots.now) × (length kept_b.old ≡ length slots.now) }
-    requires long { (length marks.old ≡ sizes.a + sizes.b) × (length words.old ≡ sizes.a + sizes.b) }
-    requires bits { Bits words.old }
-    ensures { TurnsAll sizes (F.HashFamily.hash family.now) S.SettingKind.blanks (parts P.PartKind.bytes slots.now) (placements_of (slot_in P.PartKind.bytes S.SettingKind.numbers slots.now) plan (P.PartKind.bytes part, S.SettingKind.numbers setting)) words.old words.new }
+    requires fit { Fit shelf.now.sizes plan.now }
+    requires cached { Ends (edge shelf.now.sizes (F.HashFamily.hash family.now)) P.PartKind.bytes shelf.now.slots.now space.old.ends.now }
+    requires cut { Cut shelf.now.sizes space.old }
+    requires bits { Bits space.old.words.now }
+    ensures turns { TurnsAll shelf.now.sizes (F.HashFamily.hash family.now) S.SettingKind.blanks (parts P.PartKind.bytes shelf.now.slots.now) (placements_of (slot_in P.PartKind.bytes S.SettingKind.numbers shelf.now.slots.now) plan.now (held_as P.PartKind.bytes S.SettingKind.numbers held)) space.old.words.now space.new.words.now }
+    ensures ends { space.new.ends.now ≡ space.old.ends.now }
+    ensures cut { Cut shelf.now.sizes space.new }
+    ensures loans { SameSpace space.new space.old }
 {
-    for step in 0..plan.moves + 1 {
-        let (held, _) = arriving(sizes, slots, plan, step, part, setting);
-        let bucket = plan.buckets[step];
-        turn_step(
-            family, sizes, slots, &held, bucket, step, ends_a, ends_b, kept_a, kept_b, marks, words,
-        );
+    for (step, placing) in plan.iter().enumerate() {
+        let coming = arriving(shelf, plan, step, held);
+        let bucket = placing.bucket;
+        turn_step(family, shelf, &coming.part, bucket, step, space);
     }
 }

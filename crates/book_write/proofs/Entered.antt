@@ -1,26 +1,38 @@
 -- What an enter leaves, once its plan is written.
-use Rattle.std.proofs.Common.{◌≡◌, ℕ, zero, suc, ◌+◌, ◌-◌, ◌%◌, ◌<◌, ◌≤◌, Bool, true, false, cond, eqb, ltb, List, [], ◌∷◌, ◌++◌, length, get_or, take, drop, sym, refl, ap, ◌∙◌, ap₂, inl, inr, arith}
+use Rattle.std.proofs.Common.{◌≡◌, ℕ, zero, suc, ◌+◌, ◌-◌, ◌%◌, ◌<◌, ◌≤◌, Bool, true, false, cond, eqb, ltb, List, [], ◌∷◌, ◌++◌, length, get_or, take, drop, Ok, Some, Option as CodeOption, sym, refl, ap, ◌∙◌, ap₂, subst, inl, inr, arith}
+use Rattle.arrayvec.specs.ArrayVec.{ArrayVec}
 use mathlib.Core.Path.{fun_ext}
 use Rattle.std.proofs.lemmas.Bool.{cases_lt, lt-ltb, le-ltb, ne_eqb, cond-true, cond-false, and_right, or_from}
 use Rattle.std.proofs.lemmas.List.{length-take, length-drop, get_or-take, get_or-drop}
 use Rattle.shared.specs.declared.sizes.Sizes.{Sizes}
-use Rattle.shared.specs.Answers.{Answer, accepted, refused_with}
-use Rattle.shared.specs.Book.{Slot, Book, Outcome, refused, done, raised, Call, called, left}
+use Rattle.shared.specs.Answers.{accepted}
+use Rattle.shared.specs.Book.{Held, Slot, Book, enter, Outcome, done, raised, Call, called, left}
 use Rattle.shared.specs.Graph.{◌⊕◌, flipped}
 use Rattle.shared.specs.Kinds.{Hash}
 use Rattle.shared.specs.Lists.{memb, up_from}
 use Rattle.shared.specs.Notice.{Setting, Kind, Step, notice_text}
 use Rattle.shared.specs.Table.{Part}
 use Rattle.shared_bits.specs.Bits.{lit}
-use Rattle.shared_table.specs.Memory.{row_of}
+use Rattle.shared_overflow.specs.declared.Entry.{Entry}
+use Rattle.shared_pen.specs.Laws.{Finished}
+use Rattle.shared_table.specs.Memory.{row_of, seed_of}
 use Rattle.chain_laws.specs.Plans.{Placement, turns, played, slots_after, seeds_after, row_after}
 use Rattle.chain_laws.proofs.Plans.{plays}
 use Rattle.chain_laws.proofs.Tools.{memb-kept}
 use Rattle.book_flips.specs.Words.{Words}
 use Rattle.book_flips.proofs.Words.{word_bit}
-use Rattle.book_steps.proofs.Shown.{Ranged}
-use Rattle.book_notice.specs.Lengths.{notice_bytes}
-use Rattle.book_write.specs.Writes.{RowStored, asked, CallLeft}
+use Rattle.book_slots.specs.declared.Held.{Held as CodeHeld}
+use Rattle.book_slots.specs.declared.Shelf.{Shelf}
+use Rattle.book_slots.specs.Slots.{slot_in}
+use Rattle.book_steps.specs.declared.plan.Placing.{Placing}
+use Rattle.book_steps.specs.Plans.{placements_of, shown_steps}
+use Rattle.book_steps.proofs.Shown.{Ranged, turns-ranged}
+use Rattle.book_notice.specs.Lengths.{notice_length, notice_bytes}
+use Rattle.book_enter.specs.declared.memory.Memory.{Memory}
+use Rattle.book_enter.specs.Views.{book_of}
+use Rattle.book_enter.specs.Enters.{parts_of, Planned, Passed}
+use Rattle.book_enter.proofs.Memories.{shown-outcome}
+use Rattle.book_write.specs.Writes.{SeedsStored, RowStored, asked, CallLeft}
 
 -- turns within a range leave what is past it
 past_up : (p i n : ℕ) → i + n ≤ p → memb p (up_from i n) ≡ false
@@ -72,13 +84,6 @@ module _ (a b : ℕ) (rowa rowb rowa' rowb' words : List ℕ) (tss : List (List 
 
 -- the whole outcome of a call
 module _ (z : Sizes) (hash : Hash) (kind : Kind) (b : Book) (call : Call) (buffer : List ℕ) where
-  pub call_refused : (n : ℕ) (given : Answer) → given ≡ refused_with n → refused n ≡ called z hash kind b (length buffer) call → CallLeft z hash kind b call buffer given b buffer
-  call_refused n given e is = record {
-    answered = e ∙ ap (λ (o : Outcome). (left kind b (asked call buffer) o).answer) is;
-    booked = ap (λ (o : Outcome). (left kind b (asked call buffer) o).book) is;
-    noticed = ap (λ (o : Outcome). (left kind b (asked call buffer) o).buffer) is;
-  }
-
   -- `steps` are those of the outcome, and its text was written
   pub call_done : (after : Book) (steps : List Step) → done after steps ≡ called z hash kind b (length buffer) call → (n len : ℕ) (buffer' : List ℕ) → n ≡ after.number
       → len ≡ length (notice_bytes kind n steps) → buffer' ≡ notice_bytes kind n steps ++ drop len buffer → CallLeft z hash kind b call buffer (accepted (len ∷ [])) after buffer'
@@ -103,3 +108,46 @@ book_after_lem z hash blank before b ps slot row seed es er ed =
     ap₂ (λ (s : ℕ → ℕ → Slot) (r : ℕ → Bool). book_with s r seed (b.number + 1)) es er
     ∙ ap₂ (λ (d : ℕ → ℕ) (m : ℕ). book_with (slots_after b.slot ps) (row_after b.row (turns z hash blank before b.row ps)) d m) ed n
     ∙ sym (ap raised (plays z hash blank before b ps))
+
+-- the enter of h into the book that the memory shows, with `shelf` the memory's
+module _ {P S : Type 0} (bytes : P → List ℕ) (numbers : S → List ℕ) (hash : Hash) (kind : Kind) (m : Memory P S) (h : Held) (buffer : List ℕ) where
+  abbrev z : Sizes
+  z = m.sizes
+
+  abbrev b : Book
+  b = book_of bytes numbers m
+
+  module _ (p : ArrayVec Placing) (words : List ℕ) (is : Planned z hash kind b (length buffer) h (Ok p)) (passed : Passed z hash kind.blank b (length buffer) h words p.items) (shelf : Shelf P S) (same_sizes : shelf.sizes ≡ m.sizes)
+      (same_slots : shelf.slots.now ≡ m.slots.now) (plan1 : List Placing) (same1 : plan1 ≡ p.items) where
+    shown-steps : shown_steps shelf.sizes hash kind.blank (slot_in bytes numbers shelf.slots.now) plan1 h words ≡ shown_steps z hash kind.blank b.slot p.items h words
+    shown-steps =
+        ap₂ (λ (y : Sizes) (xs : List (CodeOption (CodeHeld P S))). shown_steps y hash kind.blank (slot_in bytes numbers xs) plan1 h words) same_sizes same_slots
+        ∙ ap (λ (l : List Placing). shown_steps z hash kind.blank b.slot l h words) same1
+
+    -- what was measured is what is written, so it fits
+    pub entered_long : length buffer < length (notice_bytes kind (m.number + 1) (shown_steps shelf.sizes hash kind.blank (slot_in bytes numbers shelf.slots.now) plan1 h words)) → ⊥
+    unfolding notice_length notice_bytes
+    entered_long over =
+        let short = passed.short kind in
+        let same = ap (λ (ss : List Step). length (notice_text kind (m.number + 1) ss)) shown-steps in
+        omega arith
+
+    pub entered_done : (slots' : List (CodeOption (CodeHeld P S))) (rowa' rowb' seeds' : List ℕ) (over' : List Entry) → length words ≡ z.a + z.b
+        → RowStored m.row_a.now (take z.a words) rowa' → RowStored m.row_b.now (drop z.a words) rowb'
+        → (plan2 : List Placing) → plan2 ≡ p.items → SeedsStored z m.seeds.now m.overflow.now (placements_of b.slot plan2 h) seeds' over'
+        → (plan3 : List Placing) → plan3 ≡ p.items → slot_in bytes numbers slots' ≡ slots_after b.slot (placements_of b.slot plan3 h)
+        → (len : ℕ) (buffer' : List ℕ) → Finished (notice_bytes kind (m.number + 1) (shown_steps shelf.sizes hash kind.blank (slot_in bytes numbers shelf.slots.now) plan1 h words)) buffer buffer' (Some len)
+        → CallLeft z hash kind b (enter h.0 h.1) buffer (accepted (len ∷ [])) (book_with (slot_in bytes numbers slots') (row_of z.a rowa' rowb') (seed_of seeds' over') (m.number + 1)) buffer'
+    entered_done slots' rowa' rowb' seeds' over' long sa sb plan2 same2 seeds plan3 same3 slots len buffer' written =
+        let before = parts_of z b in
+        let ps = placements_of b.slot p.items h in
+        let tss = turns z hash kind.blank before b.row ps in
+        let rows = rows_after z.a z.b m.row_a.now m.row_b.now rowa' rowb' words tss long sa sb passed.own (turns-ranged z hash kind.blank before ps b.row) in
+        let stored = seeds.shown ∙ ap (λ (l : List Placing). seeds_after b.seed (placements_of b.slot l h)) same2 in
+        let placed = slots ∙ ap (λ (l : List Placing). slots_after b.slot (placements_of b.slot l h)) same3 in
+        let book = book_after_lem z hash kind.blank before b ps (slot_in bytes numbers slots') (row_of z.a rowa' rowb') (seed_of seeds' over') placed rows stored in
+        let number : m.number + 1 ≡ suc (played z hash kind.blank before b ps).number = omega (arith, ap (λ (x : Book). x.number) (plays z hash kind.blank before b ps)) in
+        let shown = shown-steps ∙ shown-outcome z hash kind.blank before b p.items h words passed.own in
+        subst (λ (x : Book). CallLeft z hash kind b (enter h.0 h.1) buffer (accepted (len ∷ [])) x buffer') (sym book)
+        (call_done z hash kind b (enter h.0 h.1) buffer _ _ is (m.number + 1) len buffer' number
+        (written.0 ∙ ap (λ (ss : List Step). length (notice_bytes kind (m.number + 1) ss)) shown) (written.1 ∙ ap (λ (ss : List Step). notice_bytes kind (m.number + 1) ss ++ drop len buffer) shown))

@@ -1,5 +1,5 @@
 -- What the memory shows once a plan is written.
-use Rattle.std.specs.Prelude.{◌≡◌, ℕ, ◌+◌, ◌%◌, cond, List, [], ◌∷◌, length, Ok, Err, Result, ◌==◌, nat_lt, slice_index}
+use Rattle.std.specs.Prelude.{◌≡◌, ℕ, ◌%◌, cond, List, [], ◌∷◌, length, Ok, Err, Result, ◌==◌, nat_lt, slice_index}
 use Rattle.shared.specs.declared.sizes.Sizes.{Sizes}
 use Rattle.shared.specs.declared.refusal.Refusal.{Refusal}
 use Rattle.shared.specs.Answers.{Answer}
@@ -27,11 +27,6 @@ pub record SeedsStored (z : Sizes) (seeds : List ℕ) (over : List Entry) (ps : 
 pub record RowStored (row words row' : List ℕ) : Type 0 where
   pub bits : (i : ℕ) → lit row' i ≡ cond (nat_lt i (length words)) (slice_index words i % 2 == 1) (lit row i)
   pub same : length row' ≡ length row
-
--- the book's number after a call that was answered so
-abbrev pub number_after : {X : Type 0} → ℕ → Result X Refusal → ℕ
-number_after number (Ok x) = number + 1
-number_after number (Err e) = number
 
 -- a call on a blank sheet
 abbrev pub asked : Call → List ℕ → Request

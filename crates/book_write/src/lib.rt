@@ -1,5 +1,4 @@
-// Writes what a plan of an enter says: the parts into their slots, the seeds and the rows. The plan has passed every check, so
-// none of this can fail.
+// An enter into a book's memory: planned, its notice written, then slots, seeds and rows, which cannot fail any more.
 #![tactic(auto)]
 
 pub mod enter;

@@ -1,3 +1,3 @@
-mod Prints
 mod Rewrites
 mod Forms
+mod Prints

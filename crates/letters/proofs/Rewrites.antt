@@ -7,15 +7,15 @@ use Rattle.shared.specs.Limits.{between}
 use Rattle.shared.specs.Notice.{Setting, Step, bucket, single, Notice, step_form, notice_text, read_notice}
 use Rattle.shared.specs.Forms.{times_fits}
 use Rattle.shared.proofs.Words.{between-parts}
-use Rattle.shared_text.proofs.Folds.{folded_append}
+use Rattle.std.proofs.lemmas.List.Sums.{fold-append}
 use Rattle.shared_text.specs.Events.{Event, row_a, row_b, flip, end_bucket, settings_from, step_events, events_of}
 use Rattle.shared_notice.specs.Walks.{with_number, passed}
 use Rattle.text_laws.proofs.Faithful.{faithful}
 use Rattle.letters.specs.declared.StepCount.{StepCount}
-use Rattle.shared_pen.specs.declared.pen.Pen.{Pen}
-use Rattle.shared_pen.specs.Inks.{inked}
-use Rattle.shared_pen.specs.Pens.{event_text, head_text, end_text}
-use Rattle.shared_pen.proofs.Written.{ink_notice}
+use Rattle.shared_pen.specs.declared.printer.Printer.{Printer}
+use Rattle.shared_pen.specs.Pens.{head_text, end_text}
+use Rattle.shared_pen.specs.Prints.{put, printed}
+use Rattle.shared_pen.proofs.Printed.{notice_printed}
 use Rattle.letters.specs.declared.Head.{Head}
 use Rattle.letters.specs.Counts.{more, counted, Headed}
 use Rattle.letters.specs.Letters.{trims, read_text, letter_text}
@@ -48,11 +48,11 @@ count_flips c (p ∷ ps) = count_flips c ps
 
 count_step : (c : StepCount) (s : Step) → fold counted c (step_events s) ≡ more c
 count_step c (bucket j s vs pa pb) =
-    folded_append counted (more c) (settings_from 0 vs) (row_a ∷ (map flip pa ++ (row_b ∷ (map flip pb ++ (end_bucket ∷ [])))))
+    fold-append counted (more c) (settings_from 0 vs) (row_a ∷ (map flip pa ++ (row_b ∷ (map flip pb ++ (end_bucket ∷ [])))))
     ∙ ap (λ (d : StepCount). fold counted d (map flip pa ++ (row_b ∷ (map flip pb ++ (end_bucket ∷ []))))) (count_settings (more c) 0 vs)
-    ∙ folded_append counted (more c) (map flip pa) (row_b ∷ (map flip pb ++ (end_bucket ∷ [])))
+    ∙ fold-append counted (more c) (map flip pa) (row_b ∷ (map flip pb ++ (end_bucket ∷ [])))
     ∙ ap (λ (d : StepCount). fold counted d (map flip pb ++ (end_bucket ∷ []))) (count_flips (more c) pa)
-    ∙ folded_append counted (more c) (map flip pb) (end_bucket ∷ [])
+    ∙ fold-append counted (more c) (map flip pb) (end_bucket ∷ [])
     ∙ count_flips (more c) pb
 count_step c (single j i v) = refl
 
@@ -60,7 +60,7 @@ pub count_steps : (ss : List Step) (c : StepCount) → c.steps + length ss ≤ 2
 count_steps [] c h = omega arith
 count_steps (s ∷ ss) c h =
     let one : (more c).steps ≡ c.steps + 1 = min-eq_left (omega arith) in
-    ap (λ (d : StepCount). d.steps) (folded_append counted c (step_events s) (events_of ss) ∙ ap (λ (d : StepCount). fold counted d (events_of ss)) (count_step c s))
+    ap (λ (d : StepCount). d.steps) (fold-append counted c (step_events s) (events_of ss) ∙ ap (λ (d : StepCount). fold counted d (events_of ss)) (count_step c s))
     ∙ count_steps ss (more c) (omega arith)
     ∙ omega arith
 
@@ -90,13 +90,8 @@ module _ (text : List ℕ) (head : Head) (h : Headed text head) where
   pub letter_own : letter_text text ≡ text
   letter_own = letter_is ∙ sym ((faithful trims).own text head.number h.steps h.reads).1
 
-  pub letter_inked : (p q w : Pen) (r : Result ℕ Fault) → q ≡ inked p (head_text head.number head.steps) → with_number w r ≡ passed (λ p e. inked p (event_text e)) q (read_notice trims text) → inked w (end_text head.number) ≡ inked p (letter_text text)
-  letter_inked p q w r a e =
-      let n = head.number in
-      let ss = h.steps in
-      let after : Pen → Event → Pen = λ p e. inked p (event_text e) in
-      let steps_on : w ≡ fold after q (events_of ss) = read_again after q w r (n, ss) (e ∙ ap (passed after q) h.reads) in
-      let counted-head : q ≡ inked p (head_text n (length ss)) = a ∙ ap (λ (k : ℕ). inked p (head_text n k)) (sym h.count) in
-      ap (λ (x : Pen). inked x (end_text n)) (steps_on ∙ ap (λ (x : Pen). fold after x (events_of ss)) counted-head)
-      ∙ ink_notice p trims n ss
-      ∙ ap (inked p) (sym letter_is)
+  pub letter_printed : {S : Type 0} (each : S → ℕ → S) (p q w : Printer S) (r : Result ℕ Fault) → q ≡ put each p (head_text head.number head.steps) → with_number w r ≡ passed (printed each) q (read_notice trims text) → put each w (end_text head.number) ≡ put each p (letter_text text)
+  letter_printed {S} each p q w r a e =
+      let steps_on : w ≡ fold (printed each) q (events_of h.steps) = read_again (printed each) q w r (head.number, h.steps) (e ∙ ap (passed (printed each) q) h.reads) in
+      notice_printed each trims head.number head.steps h.steps p q w (put each w (end_text head.number)) h.count a steps_on refl
+      ∙ ap (put each p) (sym letter_is)

@@ -1,5 +1,5 @@
 -- The count of a notice's steps, and what reading it tells.
-use Rattle.std.specs.Prelude.{◌≡◌, ℕ, ◌+◌, ◌≤◌, min, List, ◌++◌, length, drop, Ok, Err, Result}
+use Rattle.std.specs.Prelude.{◌≡◌, ℕ, ◌+◌, min, List, length, Ok, Err, Result}
 use Rattle.shared.specs.declared.refusal.Fault.{Fault}
 use Rattle.shared.specs.Notice.{Step, read_notice}
 use Rattle.shared_text.specs.Events.{Event, begin_bucket, setting_at, row_a, row_b, flip, end_bucket, slot_step}
@@ -29,10 +29,3 @@ pub record Headed (text : List ℕ) (head : Head) : Type 0 where
 abbrev pub ReadAs : List ℕ → Result Head Fault → Type 0
 ReadAs text (Ok head) = Headed text head
 ReadAs text (Err f) = read_notice trims text ≡ Err f
-
--- what a form prints is put behind `before`, and `used` bytes of the input, at least `least`, are the form's
-pub record Answered (least : ℕ) (form : List ℕ × List ℕ) (input before after : List ℕ) (used : ℕ) : Type 0 where
-  pub printed : after ≡ before ++ form.0
-  pub behind : drop used input ≡ form.1
-  pub within : used ≤ length input
-  pub some : least ≤ used

@@ -1,42 +1,49 @@
 // What the program `noticecheck` answers to the letters that it is brought.
 #![tactic(auto)]
 
-ghost use Rattle.std.specs.Prelude.{◌≡◌, ◌+◌, ◌<◌, ◌≤◌, ◌++◌, length, IfOk, OnOk};
+ghost use Rattle.std.specs.Prelude.{◌≡◌, ◌≤◌, ◌++◌, length, IfOk, OnOk};
 ghost use Rattle.shared.specs.Answers.{optional};
-ghost use Rattle.letters.specs.Counts.{counted, Headed, ReadAs, Answered};
+ghost use Rattle.letters.specs.Counts.{counted, Headed, ReadAs};
+ghost use Rattle.shared_pen.specs.Inks.{poured};
 ghost use Rattle.shared_pen.specs.Laws.{Finished};
-ghost use Rattle.shared_pen.specs.Pens.{number_text};
 ghost use Rattle.letters.specs.Letters.{cause_name, fault_text, letter_text, letter_length, letter_of, form_of, text_of_letters, text_in_room};
 
-use line_forms::{first_of, inside, push_line};
+use line_forms::{inside, push_refused, split_once};
 use shared::kinds::SettingKind;
 use shared::refusal::{Cause, Fault};
 use shared_kinds::trim::Trim;
 use shared_notice::notice::walk_notice;
 use shared_pen::pen::Pen;
+use shared_pen::printer::Printer;
+use shared_pen::sink::Sink;
 use shared_text::events::StepVisitor;
 use shared_text::number::read_number;
+use shared_text::row::Row;
 use std::alloc::AllocError;
+use std::io::Write;
+
+pub const LONGEST_LETTER: usize = 65536;
 
 // The length that a letter's line gives.
 fn letter_length(line: &[u8]) -> Option<u32>
     ensures { optional result ≡ letter_length line.now }
 {
-    read_number(inside(line, b"(letter ")?, 0, 65536)
+    read_number(inside(line, b"(letter ")?, 0, LONGEST_LETTER as u32)
 }
 
-fn cause_name(cause: Cause) -> &'static [u8]
+// This program's words, and no Display of the library's type.
+fn cause_name(cause: Cause) -> &'static str
     ensures { result.now ≡ cause_name cause }
 {
     match cause {
-        Cause::Byte => b"byte",
-        Cause::Word => b"word",
-        Cause::Setting(_) => b"setting",
+        Cause::Byte => "byte",
+        Cause::Word => "word",
+        Cause::Setting(_) => "setting",
     }
 }
 
 // A pass that counts the steps.
-#[derive(Clone, Copy)]
+#[derive(Clone, Copy, PartialEq, Eq, Debug, Default)]
 pub struct StepCount {
     pub steps: u8,
 }
@@ -50,9 +57,7 @@ impl StepVisitor for StepCount {
 
     fn setting<S: SettingKind>(&mut self, _slot: u8, _setting: S) {}
 
-    fn row_a(&mut self) {}
-
-    fn row_b(&mut self) {}
+    fn row(&mut self, _row: Row) {}
 
     fn flip(&mut self, _place: u16) {}
 
@@ -64,7 +69,7 @@ impl StepVisitor for StepCount {
 }
 
 // What a pass over a notice tells: its number, and how many steps it has.
-#[derive(Clone, Copy)]
+#[derive(Clone, Copy, PartialEq, Eq, Debug)]
 pub struct Head {
     pub number: u32,
     pub steps: u8,
@@ -73,48 +78,47 @@ pub struct Head {
 fn read_letter(text: &[u8]) -> Result<Head, Fault>
     ensures { ReadAs text.now result }
 {
-    let mut count = StepCount { steps: 0 };
-    match walk_notice::<Trim, StepCount>(text, &mut count) {
-        Ok(number) => Ok(Head {
-            number,
-            steps: count.steps,
-        }),
-        Err(fault) => Err(fault),
-    }
+    let mut count = StepCount::default();
+    let number = walk_notice::<Trim, StepCount>(text, &mut count)?;
+    Ok(Head {
+        number,
+        steps: count.steps,
+    })
 }
 
-// Writes the notice that `text` holds again, at the front of `room`, and answers its length.
+// Prints the notice that `text` holds again.
+fn print_again<K: Sink>(text: &[u8], head: Head, sink: &mut K)
+    requires { Headed text.now head }
+    ensures { sink.new ≡ poured K.each sink.old (letter_text text.now) }
+{
+    let mut printer = Printer { sink };
+    printer.head(head.number, head.steps);
+    let _ = walk_notice::<Trim, Printer<K>>(text, &mut printer);
+    printer.end(head.number);
+}
+
+// Writes it at the front of `room`, and answers its length.
 fn rewrite(text: &[u8], head: Head, room: &mut [u8]) -> Option<usize>
     requires { Headed text.now head }
     ensures { Finished (letter_text text.now) room.old room.new result }
 {
     let mut pen = Pen::new(room);
-    pen.head(head.number, head.steps);
-    let _ = walk_notice::<Trim, Pen>(text, &mut pen);
-    pen.end(head.number);
+    print_again(text, head, &mut pen);
     pen.finish()
 }
 
-// The number in decimal, behind what `out` holds. Here and below only want of memory is an error.
-fn push_number(n: usize, out: &mut Vec<u8>) -> Result<(), AllocError>
-    ensures { OnOk result (out.new.items ≡ out.old.items ++ number_text n) }
-{
-    if n >= 10 {
-        push_number(n / 10, out)?;
-    }
-    out.push(b'0' + (n % 10) as u8)?;
-    Ok(())
-}
-
+// Here and below only want of memory is an error.
 fn push_fault(fault: Fault, out: &mut Vec<u8>) -> Result<(), AllocError>
     ensures { OnOk result (out.new.items ≡ out.old.items ++ fault_text fault) }
 {
-    out.extend_from_slice(b"(refused 14 ")?;
-    push_number(fault.place, out)?;
-    out.push(b' ')?;
-    out.extend_from_slice(cause_name(fault.cause))?;
-    out.extend_from_slice(b")\n")?;
-    Ok(())
+    let printed = writeln!(
+        out,
+        "(refused 14 {} {})",
+        fault.place,
+        cause_name(fault.cause)
+    );
+    // only want of memory makes the write fail
+    printed.map_err(|_| AllocError)
 }
 
 // What is printed of a letter that holds a notice.
@@ -124,20 +128,16 @@ fn push_notice(
     room: &mut [u8],
     out: &mut Vec<u8>,
 ) -> Result<(), AllocError>
-    requires { (Headed text.now head) × (length text.now ≤ length room.old) }
+    requires head { Headed text.now head }
+    requires room { length text.now ≤ length room.old }
     ensures { OnOk result (out.new.items ≡ out.old.items ++ letter_text text.now) }
 {
-    match rewrite(text, head, room) {
-        Some(len) => {
-            out.extend_from_slice(&room[..len])?;
-            Ok(())
-        }
-        // a notice is as long as the text that it is read from
-        None => Ok(()),
-    }
+    // there is room: a notice is as long as the text that it is read from
+    let len = rewrite(text, head, room).unwrap();
+    out.extend_from_slice(&room[..len])
 }
 
-// What is printed of a letter.
+// What is printed of a letter. Here and below `room` and `out` are two loans of two owners.
 fn answer_letter(text: &[u8], room: &mut [u8], out: &mut Vec<u8>) -> Result<(), AllocError>
     requires { length text.now ≤ length room.old }
     ensures { OnOk result (out.new.items ≡ out.old.items ++ letter_text text.now) }
@@ -148,55 +148,54 @@ fn answer_letter(text: &[u8], room: &mut [u8], out: &mut Vec<u8>) -> Result<(), 
     }
 }
 
-// What is printed of a line and the bytes behind it, and how many of those bytes are the line's letter.
-fn answer_line(
+// What is printed of a line and the letter behind it; the answer is what stands behind the letter.
+fn answer_line<'a>(
     line: &[u8],
-    rest: &[u8],
+    rest: &'a [u8],
     room: &mut [u8],
     out: &mut Vec<u8>,
-) -> Result<usize, AllocError>
+) -> Result<&'a [u8], AllocError>
     requires { 65536 ≤ length room.old }
-    ensures { IfOk result (λ used. Answered 0 (letter_of (letter_length line.now) rest.now) rest.now out.old.items out.new.items used) }
+    ensures printed { OnOk result (out.new.items ≡ out.old.items ++ (letter_of (letter_length line.now) rest.now).0) }
+    ensures behind { IfOk result (λ left. left.now ≡ (letter_of (letter_length line.now) rest.now).1) }
 {
-    match letter_length(line) {
-        Some(len) => {
-            let len = len as usize;
-            if len > rest.len() {
-                push_line(b"(refused 14)", out)?;
-                return Ok(rest.len());
-            }
-            answer_letter(&rest[..len], room, out)?;
-            Ok(len)
-        }
-        None => {
-            push_line(b"(refused 14)", out)?;
-            Ok(0)
-        }
-    }
+    let Some(len) = letter_length(line) else {
+        push_refused(out)?;
+        return Ok(rest);
+    };
+    let Some((letter, behind)) = rest.split_at_checked(len as usize) else {
+        push_refused(out)?;
+        return Ok(&[]); // the letter is cut short
+    };
+    answer_letter(letter, room, out)?;
+    Ok(behind)
 }
 
-// What is printed of the first form of an input, and how many bytes the form has.
-fn answer_form(input: &[u8], room: &mut [u8], out: &mut Vec<u8>) -> Result<usize, AllocError>
-    requires { (65536 ≤ length room.old) × (1 ≤ length input.now) }
-    ensures { IfOk result (λ used. Answered 1 (form_of input.now) input.now out.old.items out.new.items used) }
+// What is printed of the first form of an input; the answer is what stands behind the form.
+fn answer_form<'a>(
+    input: &'a [u8],
+    room: &mut [u8],
+    out: &mut Vec<u8>,
+) -> Result<&'a [u8], AllocError>
+    requires { 65536 ≤ length room.old }
+    ensures printed { OnOk result (out.new.items ≡ out.old.items ++ (form_of input.now).0) }
+    ensures behind { IfOk result (λ left. left.now ≡ (form_of input.now).1) }
 {
-    let at = first_of(input, b'\n');
-    if at >= input.len() {
-        push_line(b"(refused 14)", out)?;
-        return Ok(input.len());
-    }
-    let used = answer_line(&input[..at], &input[at + 1..], room, out)?;
-    Ok(at + 1 + used)
+    let Some((line, rest)) = split_once(input, b'\n') else {
+        push_refused(out)?;
+        return Ok(&[]);
+    };
+    answer_line(line, rest, room, out)
 }
 
+#[tactic(auto, using(crate::proofs::Forms::forms))]
 fn answer_forms(input: &[u8], room: &mut [u8], out: &mut Vec<u8>) -> Result<(), AllocError>
     requires { 65536 ≤ length room.old }
     ensures { OnOk result (out.new.items ≡ out.old.items ++ text_of_letters input.now) }
 {
-    let mut at = 0;
-    while at < input.len() {
-        let used = answer_form(&input[at..], room, out)?;
-        at += used;
+    let mut rest = input;
+    while !rest.is_empty() {
+        rest = answer_form(rest, room, out)?;
     }
     Ok(())
 }
@@ -206,7 +205,7 @@ fn answer_forms(input: &[u8], room: &mut [u8], out: &mut Vec<u8>) -> Result<(), 
 pub fn answer_letters(input: &[u8], room: &mut [u8], out: &mut Vec<u8>) -> Result<(), AllocError>
     ensures { OnOk result (out.new.items ≡ out.old.items ++ text_in_room (length room.old) input.now) }
 {
-    if room.len() < 65536 {
+    if room.len() < LONGEST_LETTER {
         return Ok(());
     }
     answer_forms(input, room, out)

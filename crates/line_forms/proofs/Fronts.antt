@@ -1,10 +1,12 @@
 -- What stands behind a front, before a bracket and before a byte.
-use Rattle.std.proofs.Common.{◌≡◌, ℕ, suc, ◌+◌, ◌<◌, true, false, eqb, List, [], ◌∷◌, ◌++◌, length, get_or, drop, Some, None, Option as CodeOption, sym, refl, ap, ◌∙◌, subst, ⊎_elim, arith, Bor, MatchOption}
+use Rattle.std.proofs.Common.{◌≡◌, ℕ, not, eqb, Bool, List, [], ◌∷◌, ◌++◌, length, Some, None, unwrap_or, Option as CodeOption, sym, refl, ap, ◌∙◌, subst, ⊎_elim, arith, Bor, MatchOption}
+use Rattle.std.specs.List.{position, position_or_len}
 use mathlib.Core.Option.{Option, none, some}
-use Rattle.std.proofs.lemmas.List.{at_drop_more}
+use Rattle.std.proofs.lemmas.Bool.Decides.{nat_tests}
+use Rattle.std.proofs.lemmas.List.Sums.{prefix_len-le-length}
 use Rattle.std.proofs.lemmas.Bool.{cond-true, cond-false, eq-eqb, eqb-true, cases_Bool}
 use Rattle.shared.specs.Lists.{◌then◌}
-use Rattle.line_forms.specs.Fronts.{behind, closed, inside_of, first_index}
+use Rattle.line_forms.specs.Fronts.{behind, closed, inside_of}
 
 behind-is : (front rest : List ℕ) → behind front (front ++ rest) ≡ some rest
 behind-is [] rest = refl
@@ -59,10 +61,8 @@ pub closed-by : (front line rest : List ℕ) (r : CodeOption (Bor (List ℕ))) �
 closed-by front line rest None e never = inside_behind front line rest e ∙ closed-not rest never
 closed-by front line rest (Some x) e h = inside_behind front line rest e ∙ ap closed h ∙ closed_is x.now
 
--- the walk to the byte
-module _ (c : ℕ) (text : List ℕ) (i : ℕ) (so_far : first_index c text ≡ i + first_index c (drop i text)) where
-  pub walk_more : i < length text → eqb (get_or text i 0) c ≡ false → first_index c text ≡ i + 1 + first_index c (drop (i + 1) text)
-  walk_more h t = let e = at_drop_more (first_index c) text i 0 h ∙ cond-false (eqb (get_or text i 0) c) 0 (suc (first_index c (drop (i + 1) text))) t in omega arith
-
-  pub walk_here : i < length text → eqb (get_or text i 0) c ≡ true → i ≡ first_index c text
-  walk_here h t = let e = at_drop_more (first_index c) text i 0 h ∙ cond-true (eqb (get_or text i 0) c) 0 (suc (first_index c (drop (i + 1) text))) t in omega arith
+-- the first place, where the code asks for it
+pub unwrap_or-position : (p : ℕ → Bool) (xs : List ℕ) → unwrap_or (position p xs) (length xs) ≡ position_or_len p xs
+unwrap_or-position p xs =
+    let few = prefix_len-le-length (λ x. not (p x)) xs in
+    grind (arith, nat_tests)

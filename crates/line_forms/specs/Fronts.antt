@@ -1,5 +1,6 @@
 -- What stands behind a front, before a closing bracket, and before a byte.
-use Rattle.std.specs.Prelude.{ℕ, suc, cond, List, [], ◌∷◌, ◌==◌}
+use Rattle.std.specs.Prelude.{ℕ, cond, List, [], ◌∷◌, ◌==◌}
+use Rattle.std.specs.List.{position_or_len}
 use Rattle.std.proofs.Math.Option.{Option, none, some}
 use Rattle.shared.specs.Lists.{◌then◌}
 
@@ -20,5 +21,4 @@ inside_of front line = behind front line then closed
 
 -- where the byte c first stands, or the length
 abbrev pub first_index : ℕ → List ℕ → ℕ
-first_index c [] = 0
-first_index c (b ∷ bs) = cond (b == c) 0 (suc (first_index c bs))
+first_index c text = position_or_len (λ b. b == c) text

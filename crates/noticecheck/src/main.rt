@@ -1,12 +1,10 @@
 // Reads letters from standard input, and prints the notice in each again, or its fault.
 #![tactic(auto)]
 
-use letters::answer_letters;
+use letters::{LONGEST_LETTER, answer_letters};
 use std::io::{Read, Write};
 
 const MOST_BYTES: u64 = 1048576;
-
-const LONGEST_LETTER: usize = 65536;
 
 fn main(rt: HostRuntime) -> anyhow::Result<()> {
     let mut input = Vec::new(rt.alloc());

@@ -4,6 +4,7 @@ ghost use Rattle.std.specs.Prelude.{◌≡◌, ℕ, ◌+◌, ◌*◌, ◌^◌, �
 ghost use Rattle.shared.specs.Kinds.{setting_read, setting_asked, four_hashes};
 
 use crate::refusal::SettingFault;
+use std::array;
 
 // A kind of part (the keys of the table): each part has one fixed list of 1 to 16 bytes, and two parts are the same
 // exactly when their lists are.
@@ -43,7 +44,7 @@ pub trait SettingKind: Copy {
     fn blank() -> Self
         ensures { numbers result ≡ blanks };
 
-    // The number at `i`, 0 past the last.
+    // The number at `i`, 0 past the last. By index and no slice: a trim's numbers are three fields.
     fn number_at(&self, i: usize) -> u16
         ensures { result ≡ slice_index (numbers self.now) i };
 
@@ -81,13 +82,7 @@ pub trait HashFamily {
     fn hash_four<P: PartKind>(&self, turn: u8, part: &P) -> [u32; 4]
         ensures { result ≡ four_hashes (hash self.now) turn (P.PartKind.bytes part.now) }
     {
-        let first = 256 + 4 * u16::from(turn);
-        [
-            self.hash_of(first, part),
-            self.hash_of(first + 1, part),
-            self.hash_of(first + 2, part),
-            self.hash_of(first + 3, part),
-        ]
+        array::from_fn(|i| self.hash_of(256 + 4 * u16::from(turn) + i as u16, part))
     }
 
     ghost low: { (f : Self) (s : ℕ) (bytes : List ℕ) → s < 320 → hash f s bytes < 2 ^ 32 };

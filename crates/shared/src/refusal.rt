@@ -24,7 +24,7 @@ pub struct Fault {
 }
 
 // Why a call is refused. A refused call changes nothing.
-#[derive(Clone, Copy, Debug)]
+#[derive(Clone, Copy, PartialEq, Eq, Debug)]
 pub enum Refusal {
     // a size is outside its limits
     SizeOutside,

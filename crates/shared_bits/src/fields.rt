@@ -9,27 +9,22 @@ fn word(area: &[u8], from: usize) -> u16
     ensures low { slice_index area.now from < 256 }
     ensures high { slice_index area.now (from + 1) < 256 }
 {
-    let low = u16::from(area[from]);
-    let rest = area.len() - from;
-    if 1 < rest {
-        let high = u16::from(area[from + 1]);
-        high * 256 + low
-    } else {
-        low
-    }
+    u16::from_le_bytes([area[from], area.get(from + 1).copied().unwrap_or(0)])
 }
 
 // The number with this value in place of its five bits from `shift` on.
 fn splice(number: u16, shift: usize, value: u8) -> u16
-    requires { (shift < 8) × (value < 32) }
+    requires within { shift < 8 }
+    requires small { value < 32 }
     ensures { result ≡ spliced number shift value }
 {
     (number & !(31 << shift)) | (u16::from(value) << shift)
 }
 
-// The bucket's field.
+// The bucket's field. Each call asks that the field lies inside, as for an index.
 pub fn read_field(area: &[u8], bucket: usize) -> u8
-    requires { (bucket < 2 ^ 32) × (bucket * 5 + 5 ≤ 8 * length area.now) }
+    requires few { bucket < 2 ^ 32 }
+    requires inside { bucket * 5 + 5 ≤ 8 * length area.now }
     ensures { result ≡ field_of area.now bucket }
 {
     let first = bucket * 5;
@@ -39,7 +34,9 @@ pub fn read_field(area: &[u8], bucket: usize) -> u8
 
 // Writes the value into the bucket's field, and leaves every other bit as it was.
 pub fn write_field(area: &mut [u8], bucket: usize, value: u8)
-    requires { (value < 32) × ((bucket < 2 ^ 32) × (bucket * 5 + 5 ≤ 8 * length area.old)) }
+    requires small { value < 32 }
+    requires few { bucket < 2 ^ 32 }
+    requires inside { bucket * 5 + 5 ≤ 8 * length area.old }
     ensures is { area.new ≡ put_field area.old bucket value }
     ensures bits { Written area.old area.new bucket value }
 {

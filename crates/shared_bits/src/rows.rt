@@ -15,6 +15,5 @@ pub fn flip_bit(row: &mut [u8], place: usize)
     requires { place < 8 * length row.old }
     ensures { row.new ≡ flip_at row.old place }
 {
-    let old = row[place / 8];
-    row[place / 8] = old ^ (1 << (place % 8));
+    row[place / 8] ^= 1 << (place % 8);
 }

@@ -1,10 +1,14 @@
 -- The hash families.
-use Rattle.std.specs.Prelude.{◌≡◌, ℕ, ◌+◌, ◌*◌, ◌/◌, ◌%◌, ◌^◌, ◌<◌, cond, List, ◌∷◌, fold, bit_xor, nat_lt}
+use Rattle.std.specs.Prelude.{◌≡◌, ℕ, ◌+◌, ◌*◌, ◌/◌, ◌%◌, ◌^◌, ◌<◌, cond, List, [], ◌∷◌, fold, bit_xor, nat_lt}
 use Rattle.shared.specs.Kinds.{Hash}
 
 -- what a family hashes: the seed's high byte, its low byte, then the part's bytes
 abbrev pub seeded : ℕ → List ℕ → List ℕ
 seeded s k = s / 256 ∷ s % 256 ∷ k
+
+-- the four seeds that place a part: 256 + 4·turn to 259 + 4·turn
+abbrev pub place_seeds : ℕ → List ℕ
+place_seeds turn = (256 + 4 * turn) ∷ (257 + 4 * turn) ∷ (258 + 4 * turn) ∷ (259 + 4 * turn) ∷ []
 
 -- 32-bit FNV-1a: exclusive or with the byte, then multiply, keeping the low 32 bits
 abbrev pub fnv_step : ℕ → ℕ → ℕ

@@ -4,7 +4,7 @@ ghost use Rattle.shared_families.specs.Hashes.{fnv_step, fnv1a, fnv, fnv_start, 
 ghost use Rattle.std.proofs.Common.{mod-lt, lit<};
 ghost use Rattle.shared_families.specs.Folds.{folded_below};
 
-use crate::absorb::{Absorb, Four, absorb_all, absorb_part, absorb_places};
+use crate::absorb::{Absorb, absorb_all, absorb_part, absorb_places};
 use shared::kinds::{HashFamily, PartKind};
 
 const OFFSET_BASIS: u32 = 2166136261;
@@ -26,7 +26,7 @@ pub fn fnv_1a(bytes: &[u8]) -> u32
     absorb_all(OFFSET_BASIS, bytes)
 }
 
-#[derive(Clone, Copy, Debug)]
+#[derive(Clone, Copy, PartialEq, Eq, Debug)]
 pub struct Fnv;
 
 impl HashFamily for Fnv {
@@ -39,7 +39,6 @@ impl HashFamily for Fnv {
     }
 
     fn hash_four<P: PartKind>(&self, turn: u8, part: &P) -> [u32; 4] {
-        let Four { w, x, y, z } = absorb_places(OFFSET_BASIS, turn, part);
-        [w, x, y, z]
+        absorb_places(OFFSET_BASIS, turn, part)
     }
 }

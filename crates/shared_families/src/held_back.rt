@@ -8,7 +8,7 @@ ghost use Rattle.shared_families.specs.Packs.{pearson-low};
 use crate::pearson::Pearson;
 use shared::kinds::{HashFamily, PartKind};
 
-#[derive(Clone, Copy, Debug)]
+#[derive(Clone, Copy, PartialEq, Eq, Debug)]
 pub struct HeldBack {
     start: u16,
     ghost few: { start ≤ 256 },

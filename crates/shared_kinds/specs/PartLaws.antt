@@ -1,30 +1,25 @@
 -- What the laws of part kinds rest on: the bytes of a part number are below 256, and its text settles its length and its cells.
-use Rattle.std.specs.Prelude.{◌≡◌, ℕ, ◌<◌, ◌≤◌, true, ◌||◌, List, [], ◌∷◌, length, take, slice_index}
-use Rattle.std.proofs.Common.{zero, suc, eqb, leb, sym, ap, ◌∙◌, ⊎_elim, arith, lit<, get_or}
+use Rattle.std.specs.Prelude.{◌≡◌, ℕ, ◌<◌, ◌≤◌, true, List, [], ◌∷◌, length, take, slice_index}
+use Rattle.std.proofs.Common.{zero, suc, sym, ap, ◌∙◌, ⊎_elim, arith, lit<, get_or}
+use Rattle.std.proofs.lemmas.Bool.Decides.{nat_tests}
 use Rattle.std.proofs.lemmas.List.{ext_get_or, get_or-take, length-take-le}
-use Rattle.std.proofs.lemmas.Bool.{and_parts, or_cases, eqb-true, leb-true, cases_lt}
+use Rattle.std.proofs.lemmas.Bool.{and_parts, cases_lt}
+use Rattle.std.specs.List.{list_all}
 use Rattle.shared.specs.Limits.{between}
-use Rattle.shared_kinds.specs.Parts.{part_byte, all_pass, is_part_number}
+use Rattle.shared_kinds.specs.Parts.{part_byte, is_part_number}
 
 -- a byte of a part number is below 256
 byte_low : (b : ℕ) → part_byte b ≡ true → b < 256
-byte_low b t =
-    ⊎_elim
-    (λ l. ⊎_elim
-    (λ x. omega (arith, leb-true b 90 (and_parts (leb 65 b) (leb b 90) x).1))
-    (λ x. omega (arith, leb-true b 57 (and_parts (leb 48 b) (leb b 57) x).1))
-    (or_cases (between 65 90 b) (between 48 57 b) l))
-    (λ x. omega (arith, eqb-true b 45 x))
-    (or_cases (between 65 90 b || between 48 57 b) (eqb b 45) t)
+byte_low b t = grind (arith, nat_tests)
 
-all_low : (bs : List ℕ) → all_pass part_byte bs ≡ true → (i : ℕ) → get_or bs i 0 < 256
+all_low : (bs : List ℕ) → list_all part_byte bs ≡ true → (i : ℕ) → get_or bs i 0 < 256
 all_low [] t i = lit< tt
-all_low (b ∷ bs) t zero = byte_low b (and_parts (part_byte b) (all_pass part_byte bs) t).0
-all_low (b ∷ bs) t (suc i) = all_low bs (and_parts (part_byte b) (all_pass part_byte bs) t).1 i
+all_low (b ∷ bs) t zero = byte_low b (and_parts (part_byte b) (list_all part_byte bs) t).0
+all_low (b ∷ bs) t (suc i) = all_low bs (and_parts (part_byte b) (list_all part_byte bs) t).1 i
 
 -- a part number's bytes are below 256
 pub part_number-low : (text : List ℕ) → is_part_number text ≡ true → (i : ℕ) → slice_index text i < 256
-part_number-low text lawful i = all_low text (and_parts (between 1 16 (length text)) (all_pass part_byte text) lawful).1 i
+part_number-low text lawful i = all_low text (and_parts (between 1 16 (length text)) (list_all part_byte text) lawful).1 i
 
 -- sixteen cells that are clear behind a text
 pub record Cells (len : ℕ) (cells : List ℕ) : Type 0 where

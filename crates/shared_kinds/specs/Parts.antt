@@ -1,5 +1,6 @@
 -- Which numbers are tags, and which texts are part numbers.
-use Rattle.std.specs.Prelude.{ℕ, ◌/◌, ◌%◌, ◌^◌, Bool, true, cond, ◌&&◌, ◌||◌, List, [], ◌∷◌, length, ◌==◌, nat_lt}
+use Rattle.std.specs.Prelude.{ℕ, ◌/◌, ◌%◌, ◌^◌, Bool, cond, ◌&&◌, ◌||◌, List, [], ◌∷◌, length, ◌==◌, nat_lt}
+use Rattle.std.specs.List.{list_all}
 use Rattle.shared.specs.Answers.{Answer, accepted, refused_with}
 use Rattle.shared.specs.Limits.{between}
 
@@ -15,12 +16,8 @@ tag_asked n = cond (nat_lt n (2 ^ 48)) (accepted (tag_bytes n)) (refused_with 3)
 abbrev pub part_byte : ℕ → Bool
 part_byte b = between 65 90 b || between 48 57 b || b == 45
 
-abbrev pub all_pass : (ℕ → Bool) → List ℕ → Bool
-all_pass test [] = true
-all_pass test (b ∷ bs) = test b && all_pass test bs
-
 abbrev pub is_part_number : List ℕ → Bool
-is_part_number text = between 1 16 (length text) && all_pass part_byte text
+is_part_number text = between 1 16 (length text) && list_all part_byte text
 
 -- asking for a part number: 3 for any other text
 abbrev pub part_number_asked : List ℕ → Answer

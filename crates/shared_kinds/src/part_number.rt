@@ -1,7 +1,8 @@
 // A part number: 1 to 16 bytes, each a capital letter, a digit or a hyphen.
 ghost use Rattle.std.specs.Prelude.{◌≡◌, ℕ, ◌≤◌, true, length, take, slice_index};
+ghost use Rattle.std.specs.List.{list_all};
 ghost use Rattle.shared.specs.Answers.{answer};
-ghost use Rattle.shared_kinds.specs.Parts.{part_byte, all_pass, is_part_number, part_number_asked};
+ghost use Rattle.shared_kinds.specs.Parts.{part_byte, is_part_number, part_number_asked};
 ghost use Rattle.shared_kinds.specs.PartLaws.{Cells, part_number-low, same_length, same_cells};
 ghost use Rattle.std.proofs.Common.{rules, arith};
 
@@ -9,7 +10,8 @@ use shared::kinds::PartKind;
 use shared::refusal::Refusal;
 
 // The text stands at the front of `cells`; what is behind it is 0, so that equal texts are equal values.
-#[derive(Clone, Copy, Debug)]
+// An array with its length beside, and no `ArrayVec`, since a part is `Copy`.
+#[derive(Clone, Copy, PartialEq, Eq, Debug)]
 pub struct PartNumber {
     len: usize,
     cells: [u8; 16],
@@ -26,29 +28,26 @@ fn is_part_byte(byte: u8) -> bool
 }
 
 fn all_part_bytes(text: &[u8]) -> bool
-    ensures { result ≡ all_pass part_byte text.now }
+    ensures { result ≡ list_all part_byte text.now }
 {
-    for byte in text {
-        if !is_part_byte(*byte) {
-            return false;
-        }
-    }
-    true
+    text.iter().all(|byte| is_part_byte(*byte))
 }
 
-impl PartNumber {
-    // The part number with this text, or the refusal 3.
-    pub fn new(text: &[u8]) -> Result<PartNumber, Refusal>
+// The part number with this text, or the refusal 3.
+impl TryFrom<&[u8]> for PartNumber {
+    type Error = Refusal;
+
+    ghost try_from_gives = { λ text r. answer (λ p. take p.len p.cells) r ≡ part_number_asked text.now };
+
+    fn try_from(text: &[u8]) -> Result<PartNumber, Refusal>
         ensures { answer (λ p. take p.len p.cells) result ≡ part_number_asked text.now }
     {
         let len = text.len();
-        if len == 0 || len > 16 || !all_part_bytes(text) {
+        if !(1..=16).contains(&len) || !all_part_bytes(text) {
             return Err(Refusal::NoSuchPart);
         }
         let mut cells = [0; 16];
-        for i in 0..len {
-            cells[i] = text[i];
-        }
+        cells[..len].copy_from_slice(text);
         Ok(PartNumber { len, cells })
     }
 }
@@ -70,6 +69,6 @@ impl PartKind for PartNumber {
         Prim.grind (arith, Self.row.coded.inj) };
 
     fn as_bytes(&self) -> &[u8] {
-        &self.cells[0..self.len]
+        &self.cells[..self.len]
     }
 }

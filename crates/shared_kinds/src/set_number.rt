@@ -54,9 +54,9 @@ impl SettingKind for SetNumber {
     }
 
     fn read(values: &[u16]) -> Result<SetNumber, SettingFault> {
-        let [value] = values else {
+        let &[value] = values else {
             return Err(SettingFault);
         };
-        Ok(SetNumber { value: *value })
+        Ok(SetNumber { value })
     }
 }

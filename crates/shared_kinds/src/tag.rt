@@ -7,16 +7,20 @@ ghost use Rattle.std.proofs.Common.{rules, arith};
 use shared::kinds::PartKind;
 use shared::refusal::Refusal;
 
-#[derive(Clone, Copy, Debug)]
+#[derive(Clone, Copy, PartialEq, Eq, Debug)]
 pub struct Tag {
     bytes: [u8; 6],
     ghost six: { length bytes ≡ 6 },
     ghost low: { (i : ℕ) → slice_index bytes i < 256 },
 }
 
-impl Tag {
-    // The tag with this number, or the refusal 3 where it is 2^48 or more.
-    pub fn new(number: u64) -> Result<Tag, Refusal>
+// The tag with this number, or the refusal 3 where it is 2^48 or more.
+impl TryFrom<u64> for Tag {
+    type Error = Refusal;
+
+    ghost try_from_gives = { λ number r. answer (λ t. t.bytes) r ≡ tag_asked number };
+
+    fn try_from(number: u64) -> Result<Tag, Refusal>
         ensures { answer (λ t. t.bytes) result ≡ tag_asked number }
     {
         if number >= 1 << 48 {

@@ -26,8 +26,7 @@ impl Trim {
     pub fn new(advance: u16, fuel: u16, dwell: u16) -> Result<Trim, Refusal>
         ensures { answer (λ t. t.advance ∷ t.fuel ∷ t.dwell ∷ []) result ≡ trim_asked advance fuel dwell }
     {
-        let trim = Trim::read(&[advance, fuel, dwell])?;
-        Ok(trim)
+        Ok(Trim::read(&[advance, fuel, dwell])?)
     }
 }
 
@@ -80,14 +79,14 @@ impl SettingKind for Trim {
     }
 
     fn read(values: &[u16]) -> Result<Trim, SettingFault> {
-        let [advance, fuel, dwell] = values else {
+        let &[advance, fuel, dwell] = values else {
             return Err(SettingFault);
         };
-        if *advance <= 600 && (500..=1500).contains(fuel) && *dwell <= 9999 {
+        if advance <= 600 && (500..=1500).contains(&fuel) && dwell <= 9999 {
             Ok(Trim {
-                advance: *advance,
-                fuel: *fuel,
-                dwell: *dwell,
+                advance,
+                fuel,
+                dwell,
             })
         } else {
             Err(SettingFault)

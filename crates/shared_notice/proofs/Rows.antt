@@ -1,17 +1,17 @@
 -- Ascending places, as a loop reads them.
 use Rattle.std.proofs.Common.{◌≡◌, ℕ, zero, suc, ◌+◌, ◌<◌, true, false, cond, List, [], ◌∷◌, length, drop, Ok, Err, Result, sym, refl, ap, ◌∙◌, ⊎_elim, arith}
+use Rattle.std.proofs.lemmas.List.{at_drop_all}
 use Rattle.std.proofs.lemmas.Bool.{cond-true, cond-false, both_ways, cases_lt}
 use Rattle.shared.specs.declared.refusal.Fault.{Fault}
 use Rattle.shared.specs.Tokens.{mark, Space, Close, token_of, size, is_mark}
 use Rattle.shared.specs.Forms.{and_then, wrong, num_at, tok_at, ascending_at}
 use Rattle.shared_text.specs.Events.{Event, flip}
 use Rattle.shared_notice.specs.Walks.{beside, walked, flips}
-use Rattle.shared_text.proofs.Toks.{token_end}
 use Rattle.shared_notice.proofs.Walks.{then_at}
 
 -- a space stands before the text's end
 pub space_inside : (text : List ℕ) (at : ℕ) → is_mark Space (token_of (drop at text)) ≡ true → at < length text
-space_inside text at s = ⊎_elim (λ h. h) (λ h. absurd (both_ways (is_mark Space (token_of (drop at text))) (ap (is_mark Space) (token_end text at h)) s)) (cases_lt at (length text))
+space_inside text at s = ⊎_elim (λ h. h) (λ h. absurd (both_ways (is_mark Space (token_of (drop at text))) (ap (is_mark Space) (at_drop_all token_of text at h)) s)) (cases_lt at (length text))
 
 walked-cons : {V : Type 0} (after : V → Event → V) (v : V) (n : ℕ) (r : Result (List ℕ × ℕ) Fault) → walked after flips v (and_then r (λ y. Ok (n ∷ y.0, y.1))) ≡ walked after flips (after v (flip n)) r
 walked-cons after v n (Ok y) = refl
@@ -41,7 +41,7 @@ module _ {V : Type 0} (after : V → Event → V) (text : List ℕ) (v : V) (low
 
   pub along_ends : is_mark Space (token_of (drop at text)) ≡ false → Along after text v low at r → beside v (tok_at (mark Close) text at) ≡ r
   along_ends s (zero, l, h) =
-      let e = token_end text at (omega arith) in
+      let e = at_drop_all token_of text at (omega arith) in
       ap (λ t. beside v (cond (is_mark Close t) (Ok (at + size t)) (wrong t at))) e ∙ sym (ap (λ t. walked after flips v (wrong t at)) e) ∙ h
   along_ends s (suc k, l, h) =
       sym (ap (walked after flips v) (cond-false (is_mark Space (token_of (drop at text))) _ _ s) ∙ walked_none after v (tok_at (mark Close) text at)) ∙ h

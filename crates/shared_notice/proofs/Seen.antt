@@ -3,7 +3,7 @@ use Rattle.std.proofs.Common.{◌≡◌, ℕ, suc, List, ◌∷◌, ◌++◌, Ok
 use Rattle.shared.specs.declared.refusal.Fault.{Fault}
 use Rattle.shared.specs.Forms.{Form, and_then, times_at}
 use Rattle.shared.specs.Notice.{Step}
-use Rattle.shared_text.proofs.Folds.{folded_append}
+use Rattle.std.proofs.lemmas.List.Sums.{fold-append}
 use Rattle.shared_text.specs.Events.{Event, step_events, events_of}
 use Rattle.shared_notice.specs.Walks.{beside, walked}
 
@@ -31,7 +31,7 @@ module _ {V : Type 0} (after : V → Event → V) (v : V) where
   walked-pair {X} {Y} es fs (Ok x) s = second (s x.1)
     where
       second : (q : Result (Y × ℕ) Fault) → walked after (λ (x : X × Y). es x.0 ++ fs x.1) v (and_then q (λ y. Ok ((x.0, y.0), y.1))) ≡ walked after fs (fold after v (es x.0)) q
-      second (Ok y) = ap (λ w. Ok (w, y.1)) (folded_append after v (es x.0) (fs y.0))
+      second (Ok y) = ap (λ w. Ok (w, y.1)) (fold-append after v (es x.0) (fs y.0))
       second (Err d) = refl
   walked-pair es fs (Err d) s = refl
 
@@ -39,7 +39,7 @@ module _ {V : Type 0} (after : V → Event → V) (v : V) where
   walked-trail {X} es more (Ok x) s = second (s x.1)
     where
       second : (q : Result ℕ Fault) → walked after (λ x. es x ++ more) v (and_then q (λ p. Ok (x.0, p))) ≡ beside (fold after (fold after v (es x.0)) more) q
-      second (Ok p) = ap (λ w. Ok (w, p)) (folded_append after v (es x.0) more)
+      second (Ok p) = ap (λ w. Ok (w, p)) (fold-append after v (es x.0) more)
       second (Err d) = refl
   walked-trail es more (Err d) s = refl
 
@@ -48,7 +48,7 @@ module _ {V : Type 0} (after : V → Event → V) (v : V) where
   walked-first form text at k j e = ap (λ n. walked after events_of v (times_at n form text at)) e ∙ first (form.reads text at)
     where
       others : (x : Step) (q : Result (List Step × ℕ) Fault) → walked after events_of v (and_then q (λ y. Ok (x ∷ y.0, y.1))) ≡ walked after events_of (fold after v (step_events x)) q
-      others x (Ok y) = ap (λ w. Ok (w, y.1)) (folded_append after v (step_events x) (events_of y.0))
+      others x (Ok y) = ap (λ w. Ok (w, y.1)) (fold-append after v (step_events x) (events_of y.0))
       others x (Err d) = refl
 
       first : (r : Result (Step × ℕ) Fault) → walked after events_of v (and_then r (λ x. and_then (times_at j form text x.1) (λ y. Ok (x.0 ∷ y.0, y.1)))) ≡ and_then (walked after step_events v r) (λ x. walked after events_of x.0 (times_at j form text x.1))

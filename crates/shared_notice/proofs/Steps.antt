@@ -1,25 +1,16 @@
 -- What a pass sees of a step.
-use Rattle.std.proofs.Common.{◌≡◌, ℕ, ◌+◌, true, false, List, [], ◌∷◌, ◌++◌, drop, Ok, codes, Result, sym, ap, ◌∙◌}
+use Rattle.std.proofs.Common.{◌≡◌, ℕ, ◌+◌, true, List, [], ◌∷◌, ◌++◌, drop, Ok, codes, Result, ap, ◌∙◌}
 use Rattle.std.proofs.lemmas.List.{append_assoc}
-use Rattle.std.proofs.lemmas.Bool.{cond-true, cond-false}
+use Rattle.std.proofs.lemmas.Bool.{cond-true}
 use Rattle.shared.specs.declared.refusal.Fault.{Fault}
-use Rattle.shared.specs.Forms.{and_then, lead, pair, series, toks_at}
-use Rattle.shared.specs.Notice.{Kind, BucketParts, as_bucket, as_single, gap, small, line_end, setting_form, bucket_form, slot_form, step_at, step_form}
-use Rattle.shared.specs.Tokens.{Open, Space, mark, token_of, is_word, size}
-use Rattle.shared_text.specs.Events.{Event, begin_bucket, end_bucket, settings_from, step_events}
-use Rattle.shared_notice.specs.Walks.{beside, walked, a_form, b_form, row_events, content_form, content_events, bucket_events, slot_events}
+use Rattle.shared.specs.Forms.{and_then, pair, toks_at}
+use Rattle.shared.specs.Notice.{Kind, BucketParts, as_bucket, line_end, bucket_form, step_at, step_form}
+use Rattle.shared.specs.Tokens.{Open, mark, token_of, is_word, size}
+use Rattle.shared_text.specs.Events.{Event, end_bucket, step_events}
+use Rattle.shared_notice.specs.Walks.{beside, walked, a_form, b_form, row_events, content_form, content_events, bucket_events}
 use Rattle.shared_notice.proofs.Seen.{walk-on, then_assoc, walked_same, walked_as, walked-pair, walked-trail}
 
 module _ {V : Type 0} (after : V → Event → V) (kind : Kind) (text : List ℕ) (v : V) (at : ℕ) where
-  pub content_seen : (w : V) (j s p q : ℕ) → (pair (lead gap small) (lead gap small)).reads text at ≡ Ok ((j, s), p) → toks_at (mark Space ∷ mark Open ∷ []) text p ≡ Ok q → w ≡ after v (begin_bucket j s) → walked after content_events v ((content_form kind).reads text at) ≡ walked after (settings_from 0) w ((series 3 (setting_form kind)).reads text q)
-  content_seen w j s p q e f m =
-      let back : ℕ → Result (List (List ℕ) × ℕ) Fault = λ p. (lead (mark Space ∷ mark Open ∷ []) (series 3 (setting_form kind))).reads text p in
-      let begins : ℕ × ℕ → List Event = λ x. begin_bucket x.0 x.1 ∷ [] in
-      walked-pair after v begins (settings_from 0) ((pair (lead gap small) (lead gap small)).reads text at) back
-      ∙ ap (λ z. and_then (walked after begins v z) (λ x. walked after (settings_from 0) x.0 (back x.1))) e
-      ∙ ap (λ z. walked after (settings_from 0) (after v (begin_bucket j s)) (and_then z (λ q. (series 3 (setting_form kind)).reads text q))) f
-      ∙ ap (λ u. walked after (settings_from 0) u ((series 3 (setting_form kind)).reads text q)) (sym m)
-
   bucket_parts : (x : BucketParts) → bucket_events x ≡ (content_events x.0 ++ row_events x.1) ++ (end_bucket ∷ [])
   bucket_parts x = simp append_assoc
 
@@ -45,9 +36,3 @@ module _ {V : Type 0} (after : V → Event → V) (kind : Kind) (text : List ℕ
   step-bucket p e b =
       step-opened p e ∙ ap (walked after step_events v) (cond-true (is_word (codes "bucket") (token_of (drop p text))) _ _ b)
       ∙ walked_as after v step_events as_bucket ((bucket_form kind).reads text (p + size (token_of (drop p text))))
-
-  pub step-slot : (p : ℕ) → toks_at (mark Open ∷ []) text at ≡ Ok p → is_word (codes "bucket") (token_of (drop p text)) ≡ false → is_word (codes "slot") (token_of (drop p text)) ≡ true → walked after step_events v ((step_form kind).reads text at) ≡ walked after slot_events v ((slot_form kind).reads text (p + size (token_of (drop p text))))
-  step-slot p e b s =
-      step-opened p e
-      ∙ ap (walked after step_events v) (cond-false (is_word (codes "bucket") (token_of (drop p text))) _ _ b ∙ cond-true (is_word (codes "slot") (token_of (drop p text))) _ _ s)
-      ∙ walked_as after v step_events as_single ((slot_form kind).reads text (p + size (token_of (drop p text))))

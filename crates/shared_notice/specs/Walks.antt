@@ -1,5 +1,6 @@
 -- What is made of a reading, where a text is read with nothing stored.
-use Rattle.std.specs.Prelude.{ℕ, Bool, cond, List, [], ◌∷◌, ◌++◌, map, Ok, Err, codes, fold, Result}
+use Rattle.std.specs.Prelude.{ℕ, Bool, List, [], ◌∷◌, ◌++◌, map, Ok, Err, codes, fold, Result}
+use Rattle.shared.specs.declared.kinds.SettingKind as SettingKind
 use Rattle.shared.specs.declared.refusal.Cause.TheVariants as cause
 use Rattle.shared.specs.declared.refusal.Fault.{Fault}
 use Rattle.shared.specs.declared.refusal.Refusal.{Refusal}
@@ -7,12 +8,19 @@ use Rattle.shared.specs.declared.refusal.Refusal.TheVariants.{Malformed}
 use Rattle.shared.specs.Forms.{Form, and_then, lead, pair, series, ascending}
 use Rattle.shared.specs.Notice.{Setting, Kind, Notice, BucketParts, SlotParts, as_bucket, as_single, opening, gap, small, setting_form}
 use Rattle.shared.specs.Tokens.{Open, Close, Space, mark}
-use Rattle.shared_text.specs.Events.{Event, begin_bucket, row_a, row_b, flip, settings_from, step_events, events_of}
+use Rattle.shared_text.specs.Events.{Event, begin_bucket, flip, settings_from, step_events, events_of}
+use Rattle.shared_text.specs.Rows.{row_begun}
+use Rattle.shared_text.specs.declared.row.Row.{Row}
+use Rattle.shared_text.specs.declared.row.Row.TheVariants.{A, B}
 use Rattle.shared_notice.specs.declared.setting.Misread.{Misread}
 
 -- a setting kind as far as texts need it
 abbrev pub kind_of : ℕ → (List ℕ → Bool) → List ℕ → Kind
 kind_of count lawful blanks = record { count = count; lawful = lawful; blank = blanks }
+
+-- the same of a setting type, from the members that it has by its trait
+abbrev pub text_kind : {S : Type 0} → SettingKind.Ghosts S → Kind
+text_kind members = kind_of members.count members.lawful members.blanks
 
 -- what `f` makes of the value that is read
 abbrev pub mapped : {X Y E : Type 0} → (X → Y) → Result (X × ℕ) E → Result (Y × ℕ) E
@@ -26,32 +34,37 @@ beside y r = and_then r (λ to. Ok (y, to))
 abbrev pub in_fault : Misread → Fault
 in_fault m = record { place = m.place; cause = cause.Setting m.fault }
 
--- the numbers `values`, read from `place` on, as a setting's
-abbrev pub judged_at : (List ℕ → Bool) → ℕ → List ℕ → Result (List ℕ) Misread
-judged_at lawful place values = cond (lawful values) (Ok values) (Err (record { place = place; fault = record {} }))
-
-abbrev pub numbers_of : {S E : Type 0} → (S → List ℕ) → Result S E → Result (List ℕ) E
-numbers_of numbers r = and_then r (λ s. Ok (numbers s))
-
 -- what a pass is after the events of the value that is read, and the place after that value
 abbrev pub walked : {V X : Type 0} → (V → Event → V) → (X → List Event) → V → Result (X × ℕ) Fault → Result (V × ℕ) Fault
 walked after events v r = mapped (λ x. fold after v (events x)) r
 
--- the events of a row's places, of each row and of both
+-- the events of a row's places
 abbrev pub flips : List ℕ → List Event
 flips places = map flip places
 
+-- a row behind a space, with its name and its places, and its events
+abbrev pub row_name : Row → List ℕ
+row_name A = codes "a"
+row_name B = codes "b"
+
+abbrev pub row_form : Row → Form (List ℕ)
+row_form row = lead (mark Space ∷ opening (row_name row)) (ascending 65535)
+
+abbrev pub named_events : Row → List ℕ → List Event
+named_events row places = row_begun row ∷ flips places
+
+-- row a behind the settings' bracket, row b behind it, and the events of each and of both
 abbrev pub a_form : Form (List ℕ)
-a_form = lead (mark Close ∷ mark Space ∷ opening (codes "a")) (ascending 65535)
+a_form = lead (mark Close ∷ mark Space ∷ opening (row_name A)) (ascending 65535)
 
 abbrev pub a_events : List ℕ → List Event
-a_events places = row_a ∷ flips places
+a_events = named_events A
 
 abbrev pub b_form : Form (List ℕ)
-b_form = lead (mark Space ∷ opening (codes "b")) (ascending 65535)
+b_form = row_form B
 
 abbrev pub b_events : List ℕ → List Event
-b_events places = row_b ∷ flips places
+b_events = named_events B
 
 abbrev pub row_events : List ℕ × List ℕ → List Event
 row_events rows = a_events rows.0 ++ b_events rows.1

@@ -1,14 +1,15 @@
 // The pass that sees nothing: it finds whether a text is a notice.
 ghost use Rattle.std.specs.Prelude.{◌≡◌};
 ghost use Rattle.shared.specs.Notice.{read_notice};
-ghost use Rattle.shared_notice.specs.Walks.{kind_of, notice_number, refusing};
+ghost use Rattle.shared_notice.specs.Walks.{text_kind, notice_number, refusing};
 
 use crate::notice::walk_notice;
 use shared::kinds::SettingKind;
 use shared::refusal::{Fault, Refusal};
 use shared_text::events::StepVisitor;
+use shared_text::row::Row;
 
-#[derive(Clone, Copy)]
+#[derive(Clone, Copy, PartialEq, Eq, Debug)]
 pub struct Quiet;
 
 impl StepVisitor for Quiet {
@@ -18,9 +19,7 @@ impl StepVisitor for Quiet {
 
     fn setting<S: SettingKind>(&mut self, _slot: u8, _setting: S) {}
 
-    fn row_a(&mut self) {}
-
-    fn row_b(&mut self) {}
+    fn row(&mut self, _row: Row) {}
 
     fn flip(&mut self, _place: u16) {}
 
@@ -30,17 +29,16 @@ impl StepVisitor for Quiet {
 }
 
 // The number of the notice that the text is, or the fault of its first wrong token.
+#[tactic(auto, using(crate::proofs::Passes::pass_number))]
 pub fn read_notice<S: SettingKind>(text: &[u8]) -> Result<u32, Fault>
-    ensures { result ≡ notice_number (read_notice (kind_of S.SettingKind.count S.SettingKind.lawful S.SettingKind.blanks) text.now) }
+    ensures { result ≡ notice_number (read_notice (text_kind S.SettingKind) text.now) }
 {
-    let mut quiet = Quiet;
-    walk_notice::<S, Quiet>(text, &mut quiet)
+    walk_notice::<S, Quiet>(text, &mut Quiet)
 }
 
 // The same as the answer of a call: a text that is no notice is refused with 14, with the fault inside.
 pub fn check_notice<S: SettingKind>(text: &[u8]) -> Result<u32, Refusal>
-    ensures { result ≡ refusing (notice_number (read_notice (kind_of S.SettingKind.count S.SettingKind.lawful S.SettingKind.blanks) text.now)) }
+    ensures { result ≡ refusing (notice_number (read_notice (text_kind S.SettingKind) text.now)) }
 {
-    let number = read_notice::<S>(text)?;
-    Ok(number)
+    Ok(read_notice::<S>(text)?)
 }

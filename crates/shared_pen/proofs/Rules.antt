@@ -1,14 +1,13 @@
 -- A ruler, byte after byte.
-use Rattle.std.proofs.Common.{◌≡◌, ℕ, zero, suc, ◌+◌, ◌-◌, ◌^◌, ◌≤◌, min, List, [], ◌∷◌, length, refl, ap, ◌∙◌, arith}
+use Rattle.std.proofs.Common.{◌≡◌, zero, suc, ◌+◌, ◌-◌, ◌^◌, ◌≤◌, min, [], ◌∷◌, length, refl, ap, ◌∙◌, arith}
 use Rattle.shared_text.specs.Events.{Event, begin_bucket, setting_at, row_a, row_b, flip, end_bucket, slot_step}
-use Rattle.shared_pen.specs.declared.ruler.Ruler.{Ruler}
 use Rattle.shared_pen.specs.Inks.{poured}
 use Rattle.shared_pen.specs.Pens.{event_text}
-use Rattle.shared_pen.specs.Laws.{RuleBytes}
-use Rattle.shared_pen.specs.Rules.{measured, ruled_byte, ruled_event}
+use Rattle.shared_pen.specs.Laws.{RuleText, RuleBytes, RuleEvent}
+use Rattle.shared_pen.specs.Rules.{measured, ruled_byte}
 
 -- after a byte the length is in bounds, whatever it was
-pub ruled_some : (r : Ruler) (bs : List ℕ) → 1 ≤ length bs → poured ruled_byte r bs ≡ record { len = measured r.len bs }
+pub ruled_some : RuleText
 unfolding poured
 ruled_some r [] h = absurd (omega arith)
 ruled_some r (b ∷ []) h = refl
@@ -31,5 +30,5 @@ event_some (flip p) = omega arith
 event_some end_bucket = omega arith
 event_some (slot_step j i v) = omega arith
 
-pub ruled_event_lem : (r : Ruler) (e : Event) → poured ruled_byte r (event_text e) ≡ ruled_event r e
-ruled_event_lem r e = ruled_some r (event_text e) (event_some e)
+pub ruled_event_is : RuleEvent
+ruled_event_is r e = ruled_some r (event_text e) (event_some e)

@@ -1,4 +1,5 @@
 pub mod Pens
 pub mod Inks
 pub mod Rules
+pub mod Prints
 pub mod Laws

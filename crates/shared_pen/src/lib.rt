@@ -2,11 +2,14 @@
 #![tactic(auto)]
 
 pub mod pen;
+pub mod printer;
 pub mod ruler;
 pub mod sink;
 
 ghost use Rattle.shared_pen.specs.Pens.{NoticeInEvents};
-ghost use Rattle.shared_pen.specs.Laws.{InkJoined, InkFits, InkOver, InkFull, InkEvents, InkNotice, InkFinished, RuleExact, RuleBytes, RuleJoined, RuleEvents, RuleNotice};
+ghost use Rattle.shared_pen.specs.Laws.{InkJoined, InkFits, InkOver, InkFull, InkEvents, InkNotice, InkFinished, RuleExact, RuleBytes, RuleText, RuleEvent, RuleJoined, RuleEvents, RuleNotice, RuleFinished, PrintEvents, PrintNotice};
+
+use sink::Sink;
 
 // The text of a notice is its head, the texts of its steps' events, and its end.
 pub fn notice_in_events()
@@ -28,7 +31,16 @@ pub fn pen_laws()
 pub fn ruler_laws()
     ensures exact { RuleExact }
     ensures bytes { RuleBytes }
+    ensures text { RuleText }
+    ensures event { RuleEvent }
     ensures joined { RuleJoined }
     ensures events { RuleEvents }
     ensures notice { RuleNotice }
+    ensures finished { RuleFinished }
+{}
+
+// What any sink is after them, where a printer puts them there.
+pub fn printer_laws<K: Sink>()
+    ensures events { PrintEvents K.each }
+    ensures notice { PrintNotice K.each }
 {}

@@ -11,7 +11,7 @@ use shared::kinds::{HashFamily, PartKind};
 use shared::sizes::Sizes;
 
 // The four places of a part. Both rows are numbered as one: place y of row b is A + y.
-#[derive(Clone, Copy)]
+#[derive(Clone, Copy, PartialEq, Eq, Debug)]
 pub struct Places {
     // its two cuckoo buckets
     pub first: u32,
@@ -55,7 +55,7 @@ pub fn slot_under<F: HashFamily, P: PartKind>(family: &F, seed: u8, part: &P) ->
     (family.hash_of(u16::from(seed), part) >> 30) as usize
 }
 
-// Whether two parts are the same.
+// Whether two parts are the same. By bytes and not by ==: a bound PartialEq would say nothing of a part's bytes.
 pub fn same_part<P: PartKind>(left: &P, right: &P) -> bool
     ensures { result ≡ same_list (P.PartKind.bytes left.now) (P.PartKind.bytes right.now) }
 {

@@ -1,6 +1,7 @@
 -- Cleared memory shows the fresh table.
 use Rattle.std.proofs.Common.{◌≡◌, ℕ, zero, suc, ◌+◌, ◌-◌, ◌*◌, Bool, true, false, cond, eqb, ltb, List, ◌∷◌, map, length, get_or, replicate, sym, refl, ap, ◌∙◌, ap₂, inl, inr, arith}
 use Rattle.std.proofs.lemmas.List.{get_or-replicate, get_or_past, length-replicate}
+use Rattle.std.proofs.lemmas.List.Folds.{sum_by-replicate}
 use Rattle.std.proofs.lemmas.Bool.{cases_lt, cond-false}
 use Rattle.shared.specs.declared.sizes.Sizes.{Sizes}
 use Rattle.shared.specs.Lists.{up_from}
@@ -8,7 +9,8 @@ use Rattle.shared.specs.Notice.{Setting}
 use Rattle.shared.specs.Table.{entries, fresh_table}
 use Rattle.shared_bits.specs.Bits.{field_of}
 use Rattle.shared_bits.proofs.Apart.{lit-clear, field_clear}
-use Rattle.shared_overflow.specs.Overflow.{one, times, used_in, unused}
+use Rattle.shared_overflow.specs.declared.Entry.{Entry}
+use Rattle.shared_overflow.specs.Overflow.{mine, one, times, used_in, unused}
 use Rattle.shared_table.specs.Laws.{ClearedFresh}
 use Rattle.shared_table.specs.Memory.{Memory, view, cleared, seed_of, Sound}
 use Rattle.shared_table.proofs.Views.{same_table}
@@ -27,12 +29,10 @@ cond_same true x = refl
 cond_same false x = refl
 
 times_none : (n k : ℕ) → times (replicate n unused) k ≡ 0
-times_none zero k = refl
-times_none (suc n) k = omega (arith, times_none n k)
+times_none n k = omega (arith, sum_by-replicate (λ (e : Entry). one (mine k e)) n unused)
 
 used_none : (n : ℕ) → used_in (replicate n unused) ≡ 0
-used_none zero = refl
-used_none (suc n) = omega (arith, used_none n)
+used_none n = omega (arith, sum_by-replicate (λ (e : Entry). one e.used) n unused)
 
 seed_none : (l w k : ℕ) → seed_of (replicate l 0) (replicate w unused) k ≡ 0
 seed_none l w k = cond-false (eqb (field_of (replicate l 0) k) 31) _ _ (ap (λ (f : ℕ). eqb f 31) (field_clear l k)) ∙ field_clear l k

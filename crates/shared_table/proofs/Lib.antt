@@ -1,5 +1,4 @@
 pub mod SeedWrites
 pub mod Views
-pub mod Finds
 pub mod Fresh
 pub mod Passing

@@ -1,7 +1,7 @@
 -- Steps applied piece by piece are the rules' steps.
 use Rattle.std.proofs.Common.{◌≡◌, ℕ, zero, suc, ◌+◌, ◌-◌, ◌<◌, ◌≤◌, Bool, true, false, cond, not, ◌&&◌, ◌||◌, eqb, ltb, List, [], ◌∷◌, ◌++◌, map, length, get_or, sym, refl, ap, ◌∙◌, subst, inl, inr, arith}
 use Rattle.std.proofs.lemmas.List.{get_or_past}
-use Rattle.std.proofs.lemmas.Bool.{cases_lt, eqb-true, ne_eqb, ltb-true, lt-ltb, le-ltb, cond-true, cond-false, and_parts, and_right, not-true, or_from, false≢true, true≢false}
+use Rattle.std.proofs.lemmas.Bool.{cases_lt, eqb-true, ne_eqb, ltb-true, lt-ltb, le-ltb, cond-true, cond-false, and_parts, and_right, not-true, or_from, true≢false}
 use Rattle.shared.specs.declared.sizes.Sizes.{Sizes}
 use Rattle.shared.specs.Graph.{◌⊕◌}
 use Rattle.shared.specs.Lists.{memb, apart, all_below, at2}
@@ -13,25 +13,20 @@ use Rattle.shared_table.proofs.Views.{same_table, same_place}
 
 -- the parts of what is asked of a bucket step
 and4 : (a b c d : Bool) → (a && b && c && d) ≡ true → (a ≡ true) × (b ≡ true) × (c ≡ true) × (d ≡ true)
-and4 true true true true h = (refl, refl, refl, refl)
-and4 true true true false h = absurd (false≢true h)
-and4 true true false d h = absurd (false≢true h)
-and4 true false c d h = absurd (false≢true h)
-and4 false b c d h = absurd (false≢true h)
+and4 a b c d h =
+    let abc = and_parts (a && b && c) d h in
+    let ab = and_parts (a && b) c abc.0 in
+    let front = and_parts a b ab.0 in
+    (front.0, front.1, ab.1, abc.1)
 
 and5 : (a b c d e : Bool) → (a && b && c && d && e) ≡ true → (c ≡ true) × (e ≡ true)
-and5 true true true true true h = (refl, refl)
-and5 true true true true false h = absurd (false≢true h)
-and5 true true true false e h = absurd (false≢true h)
-and5 true true false d e h = absurd (false≢true h)
-and5 true false c d e h = absurd (false≢true h)
-and5 false b c d e h = absurd (false≢true h)
+and5 a b c d e h =
+    let abcd = and_parts (a && b && c && d) e h in
+    let abc = and_parts (a && b && c) d abcd.0 in
+    ((and_parts (a && b) c abc.0).1, abcd.1)
 
 and3 : (a b c : Bool) → (a && b && c) ≡ true → (b ≡ true) × (c ≡ true)
-and3 true true true h = (refl, refl)
-and3 true true false h = absurd (false≢true h)
-and3 true false c h = absurd (false≢true h)
-and3 false b c h = absurd (false≢true h)
+and3 a b c h = let ab = and_parts (a && b) c h in ((and_parts a b ab.0).1, ab.1)
 
 -- four settings put one by one are the bucket's
 module _ (f : ℕ → ℕ → Setting) (blank : Setting) (four : (j i : ℕ) → 4 ≤ i → f j i ≡ blank) (a b c d : Setting) (j : ℕ) where

@@ -1,8 +1,8 @@
 -- The table that memory shows after one write.
-use Rattle.std.proofs.Common.{◌≡◌, ℕ, zero, suc, ◌+◌, ◌-◌, ◌*◌, ◌/◌, ◌<◌, ◌≤◌, Bool, true, false, cond, ◌&&◌, eqb, ltb, List, [], ◌∷◌, map, length, get_or, set, sym, refl, ap, ◌∙◌, ap₂, inl, inr, arith}
+use Rattle.std.proofs.Common.{◌≡◌, ℕ, ◌+◌, ◌-◌, ◌*◌, ◌<◌, ◌≤◌, Bool, true, false, cond, ◌&&◌, eqb, ltb, List, map, length, get_or, set, sym, refl, ap, ◌∙◌, ap₂, inl, inr, arith}
 use mathlib.Core.Path.{fun_ext}
-use Rattle.std.proofs.lemmas.List.{get_or-set_same, get_or-set_other, length-map}
-use Rattle.std.proofs.lemmas.Bool.{cases_lt, cases_eq, eq-eqb, ne_eqb, eqb-true, lt-ltb, le-ltb, cond-true, cond-false, and_right, and_from, and_parts}
+use Rattle.std.proofs.lemmas.List.{map-set, get_or-set_same, get_or-set_other, length-map}
+use Rattle.std.proofs.lemmas.Bool.{cases_lt, cases_eq, eq-eqb, ne_eqb, eqb-true, lt-ltb, le-ltb, cond-true, cond-false, and_right, and_from}
 use Rattle.shared.specs.declared.sizes.Sizes.{Sizes}
 use Rattle.shared.specs.Graph.{◌⊕◌, flipped}
 use Rattle.shared.specs.Lists.{at2}
@@ -11,7 +11,7 @@ use Rattle.shared.specs.Table.{Table}
 use Rattle.shared_bits.specs.Bits.{lit, flip_at}
 use Rattle.shared_bits.proofs.Flips.{flip_lit}
 use Rattle.shared_table.specs.Laws.{SeedShown, SettingShown, FlipAShown, FlipBShown}
-use Rattle.shared_table.specs.Memory.{Memory, view, setting_of, row_of, fits, Long}
+use Rattle.shared_table.specs.Memory.{Memory, view, setting_of, row_of}
 use Rattle.shared_table.specs.Passes.{FourSlots}
 
 -- tables are the same where all they say is
@@ -19,26 +19,7 @@ pub same_table : (t u : Table) → ((j i : ℕ) → t.setting j i ≡ u.setting 
     → ((j : ℕ) → t.seed j ≡ u.seed j) → t.number ≡ u.number → t ≡ u
 same_table t u a b c d = λ i. record { setting = λ j k. a j k i; row = λ p. b p i; seed = λ j. c j i; number = d i }
 
-pub long_from : {S : Type 0} (z : Sizes) (m : Memory S) → fits z m ≡ true → Long z m.settings m.rowa m.rowb m.seeds m.over
-long_from z m e =
-    let a = and_parts (eqb (length m.settings) (4 * z.buckets)) _ e in
-    let b = and_parts (eqb (length m.rowa) ((z.a + 7) / 8)) _ a.1 in
-    let c = and_parts (eqb (length m.rowb) ((z.b + 7) / 8)) _ b.1 in
-    let d = and_parts (eqb (length m.seeds) ((5 * z.buckets + 7) / 8)) _ c.1 in
-    record {
-      long_settings = eqb-true _ _ a.0;
-      long_rowa = eqb-true _ _ b.0;
-      long_rowb = eqb-true _ _ c.0;
-      long_seeds = eqb-true _ _ d.0;
-      long_over = eqb-true _ _ d.1;
-    }
-
 -- the settings
-map-set : {S : Type 0} (numbers : S → List ℕ) (ss : List S) (k : ℕ) (v : S) → map numbers (set ss k v) ≡ set (map numbers ss) k (numbers v)
-map-set numbers [] k v = refl
-map-set numbers (s ∷ ss) zero v = refl
-map-set numbers (s ∷ ss) (suc k) v = ap (λ (l : List (List ℕ)). numbers s ∷ l) (map-set numbers ss k v)
-
 both-not : (a b : Bool) → (a ≡ true → b ≡ true → ⊥) → (a && b) ≡ false
 both-not true true h = absurd (h refl refl)
 both-not true false h = refl

@@ -1,3 +1,4 @@
 pub mod Memory
 pub mod Passes
 pub mod Laws
+pub mod Tables

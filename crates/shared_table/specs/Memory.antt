@@ -32,14 +32,6 @@ fits z m =
     && (length m.seeds == (5 * z.buckets + 7) / 8
     && length m.over == z.overflow)))
 
--- the same by name
-pub record Long {S : Type 0} (z : Sizes) (settings : List S) (rowa rowb seeds : List ℕ) (over : List Entry) : Type 0 where
-  pub long_settings : length settings ≡ 4 * z.buckets
-  pub long_rowa : length rowa ≡ (z.a + 7) / 8
-  pub long_rowb : length rowb ≡ (z.b + 7) / 8
-  pub long_seeds : length seeds ≡ (5 * z.buckets + 7) / 8
-  pub long_over : length over ≡ z.overflow
-
 -- the seed of bucket j: its field, or its overflow entry's where the field is 31
 abbrev pub seed_of : List ℕ → List Entry → ℕ → ℕ
 seed_of seeds over j = cond (field_of seeds j == 31) (seed_in over j) (field_of seeds j)

@@ -4,3 +4,4 @@
 pub mod laws;
 pub mod seeds;
 pub mod slots;
+pub mod table;

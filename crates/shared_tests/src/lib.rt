@@ -17,10 +17,11 @@ mod tests {
 
     // The number of the refusal, or 0.
     fn refused<T: Drop>(r: Result<T, Refusal>) -> u8 {
-        match r {
-            Ok(_) => 0,
-            Err(e) => e.number(),
-        }
+        r.err().map_or(0, Refusal::number)
+    }
+
+    fn part_number(text: &[u8]) -> Result<PartNumber, Refusal> {
+        PartNumber::try_from(text)
     }
 
     #[test]
@@ -47,8 +48,8 @@ mod tests {
             Refusal::OutsideSizes,
             Refusal::BucketTwice,
         ];
-        for (i, refusal) in all.iter().enumerate() {
-            assert_eq!(rt; refusal.number() as usize, i + 1);
+        for (refusal, number) in all.iter().zip(1..) {
+            assert_eq!(rt; refusal.number(), number);
         }
     }
 
@@ -66,21 +67,21 @@ mod tests {
 
     #[test]
     fn tags_are_six_bytes(rt: HostRuntime) -> Result<(), Fail> {
-        let tag = Tag::new(0x0102_0304_0506)?;
+        let tag = Tag::try_from(0x0102_0304_0506)?;
         assert_eq!(rt; tag.as_bytes(), [1, 2, 3, 4, 5, 6].as_slice());
-        assert_eq!(rt; refused(Tag::new(0xffff_ffff_ffff)), 0);
-        assert_eq!(rt; refused(Tag::new(0x1_0000_0000_0000)), 3);
+        assert_eq!(rt; refused(Tag::try_from(0xffff_ffff_ffff)), 0);
+        assert_eq!(rt; refused(Tag::try_from(0x1_0000_0000_0000)), 3);
         Ok(())
     }
 
     #[test]
     fn part_numbers_are_named(rt: HostRuntime) -> Result<(), Fail> {
-        assert_eq!(rt; PartNumber::new(b"AZ-09")?.as_bytes(), b"AZ-09".as_slice());
-        assert_eq!(rt; refused(PartNumber::new(b"ABCDEFGHIJKLMNOP")), 0);
-        assert_eq!(rt; refused(PartNumber::new(b"")), 3);
-        assert_eq!(rt; refused(PartNumber::new(b"ABCDEFGHIJKLMNOPQ")), 3);
-        assert_eq!(rt; refused(PartNumber::new(b"Ab")), 3);
-        assert_eq!(rt; refused(PartNumber::new(b"A B")), 3);
+        assert_eq!(rt; part_number(b"AZ-09")?.as_bytes(), b"AZ-09".as_slice());
+        assert_eq!(rt; refused(part_number(b"ABCDEFGHIJKLMNOP")), 0);
+        assert_eq!(rt; refused(part_number(b"")), 3);
+        assert_eq!(rt; refused(part_number(b"ABCDEFGHIJKLMNOPQ")), 3);
+        assert_eq!(rt; refused(part_number(b"Ab")), 3);
+        assert_eq!(rt; refused(part_number(b"A B")), 3);
         Ok(())
     }
 
@@ -116,13 +117,13 @@ mod tests {
     fn hashes_have_their_published_values(rt: HostRuntime) -> Result<(), Fail> {
         assert_eq!(rt; fnv_1a(b""), 0x811C_9DC5);
         assert_eq!(rt; fnv_1a(b"foobar"), 0xBF9C_F968);
-        assert_eq!(rt; Pearson.hash_of(0, &PartNumber::new(b"A")?), 0x6120_FCF2);
+        assert_eq!(rt; Pearson.hash_of(0, &part_number(b"A")?), 0x6120_FCF2);
         Ok(())
     }
 
     #[test]
     fn four_hashes_are_those_of_four_seeds(rt: HostRuntime) -> Result<(), Fail> {
-        let part = PartNumber::new(b"04E-906-018")?;
+        let part = part_number(b"04E-906-018")?;
         let [w, x, y, z] = Fnv.hash_four(15, &part);
         assert_eq!(rt; w, Fnv.hash_of(316, &part));
         assert_eq!(rt; x, Fnv.hash_of(317, &part));
@@ -134,7 +135,7 @@ mod tests {
     #[test]
     fn a_held_back_family_starts_late(rt: HostRuntime) -> Result<(), Fail> {
         assert!(rt; HeldBack::new(257).is_none());
-        let part = PartNumber::new(b"A")?;
+        let part = part_number(b"A")?;
         let Some(family) = HeldBack::new(31) else {
             return Err(Fail::new("no family"));
         };

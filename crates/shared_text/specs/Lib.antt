@@ -1,2 +1,4 @@
 pub mod Events
 pub mod Views
+pub mod Rows
+pub mod Numbers

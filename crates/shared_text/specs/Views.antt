@@ -15,20 +15,14 @@ mark_of m.Space = rule.Space
 mark_of m.Line = rule.Line
 
 abbrev pub seen : Token → rule.Tok
-seen (t.Open p) = rule.mark rule.Open
-seen (t.Close p) = rule.mark rule.Close
-seen (t.Space p) = rule.mark rule.Space
-seen (t.Line p) = rule.mark rule.Line
+seen (t.Mark p k) = rule.mark (mark_of k)
 seen (t.Word p w) = rule.word w.now
 seen (t.Stray p) = rule.stray
 seen (t.End p) = rule.end
 
 -- the index of its first byte
 abbrev pub place_of : Token → ℕ
-place_of (t.Open p) = p
-place_of (t.Close p) = p
-place_of (t.Space p) = p
-place_of (t.Line p) = p
+place_of (t.Mark p k) = p
 place_of (t.Word p w) = p
 place_of (t.Stray p) = p
 place_of (t.End p) = p

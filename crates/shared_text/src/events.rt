@@ -1,11 +1,14 @@
 // What a pass over a notice's steps sees, piece by piece, in the order of its text. No step is stored: a step may list as many
 // places as the rows have, and a device has no room for that.
 ghost use Rattle.std.specs.Prelude.{◌≡◌};
-ghost use Rattle.shared_text.specs.Events.{Event, begin_bucket, setting_at, row_a, row_b, flip, end_bucket, slot_step};
+ghost use Rattle.shared_text.specs.Events.{Event, begin_bucket, setting_at, flip, end_bucket, slot_step};
+ghost use Rattle.shared_text.specs.Rows.{row_begun};
 
+use crate::row::Row;
 use shared::kinds::SettingKind;
 
 // One pass: what it is after an event, from what it was before.
+// Six calls and no enum: an event would carry its setting's type, which each call chooses.
 pub trait StepVisitor {
     ghost after: { Self → Event → Self };
 
@@ -17,13 +20,9 @@ pub trait StepVisitor {
     fn setting<S: SettingKind>(&mut self, slot: u8, setting: S)
         ensures { self.new ≡ after self.old (setting_at slot (S.SettingKind.numbers setting)) };
 
-    // The flipped places of row a follow, ascending.
-    fn row_a(&mut self)
-        ensures { self.new ≡ after self.old row_a };
-
-    // The flipped places of row b follow, ascending.
-    fn row_b(&mut self)
-        ensures { self.new ≡ after self.old row_b };
+    // The flipped places of the row follow, ascending.
+    fn row(&mut self, row: Row)
+        ensures { self.new ≡ after self.old (row_begun row) };
 
     // A flipped place of the row that was named last.
     fn flip(&mut self, place: u16)

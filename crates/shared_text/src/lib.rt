@@ -3,4 +3,5 @@
 
 pub mod events;
 pub mod number;
+pub mod row;
 pub mod token;

@@ -1,9 +1,9 @@
 // Tokens: a text is cut into brackets, spaces, line ends and words, whatever its forms are. Nothing is copied: a word
 // borrows the text.
-ghost use Rattle.std.specs.Prelude.{◌≡◌, ◌+◌, ◌-◌, ◌≤◌, length, drop};
+ghost use Rattle.std.specs.Prelude.{◌≡◌, ◌-◌, ◌≤◌, length, drop};
+ghost use Rattle.std.specs.List.{prefix_len};
 ghost use Rattle.shared.specs.Answers.{optional};
 ghost use Rattle.shared.specs.Forms.{token_number};
-ghost use Rattle.shared.specs.Lists.{same_list};
 ghost use Rattle.shared.specs.Tokens.{word_byte, run, token_of, size, is_mark, is_word, is_end};
 ghost use Rattle.shared_text.specs.Views.{seen, place_of, mark_of, fault_of};
 
@@ -11,7 +11,7 @@ use crate::number::read_number;
 use shared::refusal::{Cause, Fault};
 
 // The tokens of one byte each.
-#[derive(Clone, Copy)]
+#[derive(Clone, Copy, PartialEq, Eq, Debug)]
 pub enum Mark {
     Open,
     Close,
@@ -20,12 +20,10 @@ pub enum Mark {
 }
 
 // A token with the index of its first byte: a mark, a word, a byte that begins no token, or the end of the text.
-#[derive(Clone, Copy)]
+// Each case carries its place, so that a token is one value.
+#[derive(Clone, Copy, PartialEq, Eq, Debug)]
 pub enum Token<'a> {
-    Open(usize),
-    Close(usize),
-    Space(usize),
-    Line(usize),
+    Mark(usize, Mark),
     Word(usize, &'a [u8]),
     Stray(usize),
     End(usize),
@@ -35,61 +33,55 @@ pub enum Token<'a> {
 fn is_word_byte(byte: u8) -> bool
     ensures { result ≡ word_byte byte }
 {
-    (byte >= b'a' && byte <= b'z') || (byte >= b'0' && byte <= b'9')
+    byte.is_ascii_lowercase() || byte.is_ascii_digit()
 }
 
-// Where the longest run of word bytes that begins at `at` ends.
-fn word_end(text: &[u8], at: usize) -> usize
-    requires { at ≤ length text.now }
+// How many word bytes `text` begins with.
+fn word_len(text: &[u8]) -> usize
+    ensures len { result ≡ prefix_len word_byte text.now }
     ensures within { result ≤ length text.now }
-    ensures ends { result ≡ at + length (run (drop at text.now)) }
 {
-    let mut i = at;
-    while i < text.len() && is_word_byte(text[i]) {
-        i += 1;
-    }
-    i
+    text.iter().take_while(|byte| is_word_byte(**byte)).count()
+}
+
+// The longest run of word bytes in front of `text`.
+#[tactic(auto, using(crate::proofs::Toks::run_front))]
+fn leading_word(text: &[u8]) -> &[u8]
+    ensures run { result.now ≡ run text.now }
+    ensures within { length result.now ≤ length text.now }
+{
+    &text[..word_len(text)]
 }
 
 // The token that begins at `at`; past the text's last byte that is its end.
-pub fn next_token<'a>(text: &'a [u8], at: usize) -> Token<'a>
+pub fn next_token(text: &[u8], at: usize) -> Token<'_>
     ensures place { place_of result ≡ at }
     ensures token { seen result ≡ token_of (drop at text.now) }
     ensures within { size (seen result) ≤ length text.now - at }
 {
-    if at >= text.len() {
+    let Some(&byte) = text.get(at) else {
         return Token::End(at);
-    }
-    let byte = text[at];
+    };
     match byte {
-        b'(' => Token::Open(at),
-        b')' => Token::Close(at),
-        b' ' => Token::Space(at),
-        b'\n' => Token::Line(at),
-        _ => {
-            if is_word_byte(byte) {
-                let end = word_end(text, at);
-                Token::Word(at, &text[at..end])
-            } else {
-                Token::Stray(at)
-            }
-        }
+        b'(' => Token::Mark(at, Mark::Open),
+        b')' => Token::Mark(at, Mark::Close),
+        b' ' => Token::Mark(at, Mark::Space),
+        b'\n' => Token::Mark(at, Mark::Line),
+        byte if is_word_byte(byte) => Token::Word(at, leading_word(&text[at..])),
+        _ => Token::Stray(at),
     }
 }
 
-impl<'a> Token<'a> {
+impl Token<'_> {
     // The index of its first byte.
     pub fn place(self) -> usize
         ensures { result ≡ place_of self.entry }
     {
         match self {
-            Token::Open(place) => place,
-            Token::Close(place) => place,
-            Token::Space(place) => place,
-            Token::Line(place) => place,
-            Token::Word(place, _) => place,
-            Token::Stray(place) => place,
-            Token::End(place) => place,
+            Token::Mark(place, _)
+            | Token::Stray(place)
+            | Token::End(place)
+            | Token::Word(place, _) => place,
         }
     }
 
@@ -112,13 +104,9 @@ impl<'a> Token<'a> {
         ensures { result ≡ size (seen self.entry) }
     {
         match self {
-            Token::Open(_) => 1,
-            Token::Close(_) => 1,
-            Token::Space(_) => 1,
-            Token::Line(_) => 1,
+            Token::Mark(..) => 1,
             Token::Word(_, word) => word.len(),
-            Token::Stray(_) => 0,
-            Token::End(_) => 0,
+            Token::Stray(_) | Token::End(_) => 0,
         }
     }
 
@@ -126,33 +114,22 @@ impl<'a> Token<'a> {
     pub fn is_mark(self, want: Mark) -> bool
         ensures { result ≡ is_mark (mark_of want) (seen self.entry) }
     {
-        match (self, want) {
-            (Token::Open(_), Mark::Open) => true,
-            (Token::Close(_), Mark::Close) => true,
-            (Token::Space(_), Mark::Space) => true,
-            (Token::Line(_), Mark::Line) => true,
-            _ => false,
-        }
+        matches!(self, Token::Mark(_, mark) if mark == want)
     }
 
     // Whether it is the word `want`.
+    #[tactic(auto, using(crate::proofs::Toks::same_list_is))]
     pub fn is_word(self, want: &[u8]) -> bool
         ensures { result ≡ is_word want.now (seen self.entry) }
     {
-        match self {
-            Token::Word(_, word) => same_bytes(want, word),
-            _ => false,
-        }
+        matches!(self, Token::Word(_, word) if want == word)
     }
 
     // Whether the text ends here.
     pub fn is_end(self) -> bool
         ensures { result ≡ is_end (seen self.entry) }
     {
-        match self {
-            Token::End(_) => true,
-            _ => false,
-        }
+        matches!(self, Token::End(_))
     }
 
     // The number that it is, if it is one of `low..=high`.
@@ -164,10 +141,4 @@ impl<'a> Token<'a> {
             _ => None,
         }
     }
-}
-
-fn same_bytes(a: &[u8], b: &[u8]) -> bool
-    ensures { result ≡ same_list a.now b.now }
-{
-    a == b
 }

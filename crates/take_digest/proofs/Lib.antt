@@ -1,5 +1,4 @@
 pub mod Forms
 pub mod Noted
 pub mod Readings
-pub mod Loops
 pub mod Counts

@@ -1,5 +1,5 @@
 -- The digest of a notice's steps.
-use Rattle.std.specs.Prelude.{◌≡◌, ℕ, suc, ◌≤◌, true, List, [], ◌∷◌, ◌++◌, length, take, Ok, Err, Result}
+use Rattle.std.specs.Prelude.{◌≡◌, ℕ, suc, ◌≤◌, List, [], ◌∷◌, ◌++◌, length, Ok, Err, Result}
 use Rattle.shared.specs.declared.refusal.Fault.{Fault}
 use Rattle.shared.specs.declared.sizes.Sizes.{Sizes}
 use Rattle.shared.specs.Notice.{Setting, Kind, Step, bucket, single, read_notice}
@@ -26,22 +26,13 @@ writes_of [] = []
 writes_of (bucket j s vs pa pb ∷ ss) = writes_from j 0 vs ++ writes_of ss
 writes_of (single j i v ∷ ss) = write_of j i v ∷ writes_of ss
 
--- a digest of no step
-pub record Empty (z : Sizes) (d : Digest) : Type 0 where
-  pub sizes : d.sizes ≡ z
-  pub steps : d.steps ≡ 0
-  pub room : length d.heads ≡ 5
-  pub filled : d.filled ≡ 0
-  pub space : length d.writes ≡ 20
-  pub inside : d.inside ≡ true
-
 -- what a digest tells of the steps
 pub record Shows (z : Sizes) (ss : List Step) (d : Digest) : Type 0 where
-  pub heads : take d.steps d.heads ≡ heads_of ss
-  pub writes : take d.filled d.writes ≡ writes_of ss
+  pub heads : d.heads.items ≡ heads_of ss
+  pub writes : d.writes.items ≡ writes_of ss
   pub inside : d.inside ≡ within z ss
-  pub few_heads : d.steps ≤ 5
-  pub few_writes : d.filled ≤ 20
+  pub few_heads : length d.heads.items ≤ 5
+  pub few_writes : length d.writes.items ≤ 20
 
 -- what reading a text answers: the number and the digest of its notice, or its fault
 abbrev pub DigestRead : Kind → Sizes → List ℕ → Result (ℕ × Digest) Fault → Type 0

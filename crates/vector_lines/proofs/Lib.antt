@@ -1,2 +1,1 @@
-mod Families
 mod Splits

@@ -1,79 +1,63 @@
--- An input cut into lines, byte after byte.
-use Rattle.std.proofs.Common.{◌≡◌, ℕ, ◌+◌, ◌-◌, ◌<◌, ◌≤◌, eqb, List, [], ◌∷◌, ◌++◌, length, get_or, take, drop, sym, refl, ap, ◌∙◌, arith, length-drop}
+-- An input cut into lines, at the first line's end.
+use Rattle.std.proofs.Common.{◌≡◌, ℕ, suc, ◌+◌, ◌<◌, ◌≤◌, true, false, cond, not, eqb, List, [], ◌∷◌, ◌++◌, length, take, drop, sym, refl, ap, ◌∙◌, ⊎_elim, arith}
 use mathlib.Core.Option.{none}
-use Rattle.std.proofs.lemmas.List.{append_assoc, append-nil, drop_more, drop_all, get_or-drop, take_more, length-take-le}
-use Rattle.std.proofs.lemmas.Bool.{cond-true, cond-false, eq-eqb, ne_eqb}
+use Rattle.std.proofs.lemmas.List.{append_assoc, append-nil}
+use Rattle.std.proofs.lemmas.Bool.{cond-true, cond-false, cases_Bool}
+use Rattle.line_forms.specs.Fronts.{first_index}
 use Rattle.vector_lines.specs.Lines.{line_hash, line_text, unfinished, text_of_lines}
 
--- the line that began at `start`, as far as it is read at `i`, and what is printed from there on
-abbrev pub begun : List ℕ → ℕ → ℕ → List ℕ
-begun input start i = take (i - start) (drop start input)
+module _ (b : ℕ) (bs : List ℕ) where
+  first-here : eqb b 10 ≡ true → first_index 10 (b ∷ bs) ≡ 0
+  first-here t = ap (λ v. cond (not v) (1 + first_index 10 bs) 0) t
 
-abbrev pub printed : List ℕ → ℕ → ℕ → List ℕ
-printed input start i = text_of_lines (begun input start i) (drop i input)
+  first-behind : eqb b 10 ≡ false → first_index 10 (b ∷ bs) ≡ suc (first_index 10 bs)
+  first-behind t = ap (λ v. cond (not v) (1 + first_index 10 bs) 0) t ∙ omega arith
 
-module _ (input : List ℕ) (start i : ℕ) (before : start ≤ i) where
-  byte_at : i < length input → printed input start i ≡ text_of_lines (begun input start i) (get_or input i 0 ∷ drop (i + 1) input)
-  byte_at h = ap (text_of_lines (begun input start i)) (drop_more input i 0 h)
+-- what is printed where the line that has begun with `line` ends at `i`
+abbrev pub cut_at : ℕ → List ℕ → List ℕ → List ℕ
+cut_at i line rest = line_text (line_hash (line ++ take i rest)) ++ text_of_lines [] (drop (i + 1) rest)
 
-  pub line-ends : i < length input → get_or input i 0 ≡ 10 → printed input start i ≡ line_text (line_hash (begun input start i)) ++ printed input (i + 1) (i + 1)
-  unfolding text_of_lines
-  line-ends h e =
-      let none_yet : i + 1 - (i + 1) ≡ 0 = omega arith in
-      byte_at h
-      ∙ cond-true (eqb (get_or input i 0) 10) (line_text (line_hash (begun input start i)) ++ text_of_lines [] (drop (i + 1) input)) (text_of_lines (begun input start i ++ (get_or input i 0 ∷ [])) (drop (i + 1) input)) (eq-eqb (get_or input i 0) 10 e)
-      ∙ ap (λ (n : ℕ). line_text (line_hash (begun input start i)) ++ text_of_lines (take n (drop (i + 1) input)) (drop (i + 1) input)) (sym none_yet)
+cut-behind : (i : ℕ) (line : List ℕ) (b : ℕ) (rest : List ℕ) → cut_at i (line ++ (b ∷ [])) rest ≡ cut_at (suc i) line (b ∷ rest)
+cut-behind i line b rest =
+    let more : suc (i + 1) ≡ suc i + 1 = omega arith in
+    ap (λ l. line_text (line_hash l) ++ text_of_lines [] (drop (i + 1) rest)) (append_assoc line (b ∷ []) (take i rest))
+    ∙ ap (λ k. line_text (line_hash (line ++ take (suc i) (b ∷ rest))) ++ text_of_lines [] (drop k (b ∷ rest))) more
 
-  pub line-goes_on : i < length input → (get_or input i 0 ≡ 10 → ⊥) → printed input start i ≡ printed input start (i + 1)
-  unfolding text_of_lines
-  line-goes_on h e =
-      let at_i : start + (i - start) ≡ i = omega arith in
-      let more : i - start + 1 ≡ i + 1 - start = omega arith in
-      let byte : get_or (drop start input) (i - start) 0 ≡ get_or input i 0 = get_or-drop start input (i - start) 0 ∙ ap (λ (n : ℕ). get_or input n 0) at_i in
-      let longer : begun input start i ++ (get_or input i 0 ∷ []) ≡ begun input start (i + 1) =
-      ap (λ (b : ℕ). begun input start i ++ (b ∷ [])) (sym byte)
-      ∙ sym (take_more (drop start input) (i - start) 0 (simp length-drop (omega arith)))
-      ∙ ap (λ (n : ℕ). take n (drop start input)) more in
-      byte_at h
-      ∙ cond-false (eqb (get_or input i 0) 10) (line_text (line_hash (begun input start i)) ++ text_of_lines [] (drop (i + 1) input)) (text_of_lines (begun input start i ++ (get_or input i 0 ∷ [])) (drop (i + 1) input)) (ne_eqb (get_or input i 0) 10 e)
-      ∙ ap (λ (l : List ℕ). text_of_lines l (drop (i + 1) input)) longer
+pub text_of_lines-cut : (line rest : List ℕ) → first_index 10 rest < length rest → text_of_lines line rest ≡ cut_at (first_index 10 rest) line rest
+unfolding text_of_lines
+text_of_lines-cut line [] h = absurd (omega arith)
+text_of_lines-cut line (b ∷ bs) h =
+    ⊎_elim
+    (λ t.
+    cond-true (eqb b 10) (line_text (line_hash line) ++ text_of_lines [] bs) (text_of_lines (line ++ (b ∷ [])) bs) t
+    ∙ ap (λ l. line_text (line_hash l) ++ text_of_lines [] bs) (sym (append-nil line))
+    ∙ ap (λ i. cut_at i line (b ∷ bs)) (sym (first-here b bs t)))
+    (λ t.
+    let behind = first-behind b bs t in
+    cond-false (eqb b 10) (line_text (line_hash line) ++ text_of_lines [] bs) (text_of_lines (line ++ (b ∷ [])) bs) t
+    ∙ text_of_lines-cut (line ++ (b ∷ [])) bs (omega (arith, behind, h))
+    ∙ cut-behind (first_index 10 bs) line b bs
+    ∙ ap (λ i. cut_at i line (b ∷ bs)) (sym behind))
+    (cases_Bool (eqb b 10))
 
-  unfinished-some : (line : List ℕ) → 0 < length line → unfinished line ≡ line_text none
-  unfinished-some [] h = absurd (omega arith)
-  unfinished-some (b ∷ line) h = refl
+pub text_of_lines-rest : (line rest : List ℕ) → length rest ≤ first_index 10 rest → text_of_lines line rest ≡ unfinished (line ++ rest)
+unfolding text_of_lines
+text_of_lines-rest line [] h = ap unfinished (sym (append-nil line))
+text_of_lines-rest line (b ∷ bs) h =
+    ⊎_elim
+    (λ t. absurd (omega (arith, first-here b bs t, h)))
+    (λ t.
+    cond-false (eqb b 10) (line_text (line_hash line) ++ text_of_lines [] bs) (text_of_lines (line ++ (b ∷ [])) bs) t
+    ∙ text_of_lines-rest (line ++ (b ∷ [])) bs (omega (arith, first-behind b bs t, h))
+    ∙ ap unfinished (append_assoc line (b ∷ []) bs))
+    (cases_Bool (eqb b 10))
 
-  pub line-unfinished : length input ≤ i → i ≤ length input → start < i → printed input start i ≡ line_text none
-  unfolding text_of_lines
-  line-unfinished h k s =
-      ap (text_of_lines (begun input start i)) (drop_all i input h)
-      ∙ unfinished-some (begun input start i) (omega (arith, length-take-le (i - start) (drop start input) (simp length-drop (omega arith))))
+pub unfinished-some : (line : List ℕ) → 0 < length line → unfinished line ≡ line_text none
+unfinished-some [] h = absurd (omega arith)
+unfinished-some (b ∷ line) h = refl
 
-  pub lines_end : length input ≤ i → i ≤ start → printed input start i ≡ []
-  unfolding text_of_lines
-  lines_end h s =
-      let none_left : i - start ≡ 0 = omega arith in
-      ap (text_of_lines (begun input start i)) (drop_all i input h) ∙ ap (λ (n : ℕ). unfinished (take n (drop start input))) none_left
+pub unfinished-none : (line : List ℕ) → length line ≤ 0 → unfinished line ≡ []
+unfinished-none [] h = refl
+unfinished-none (b ∷ line) h = absurd (omega arith)
 
--- one turn of the walk: `out` is what is printed so far, and `all` what is printed in the end
-module _ (input : List ℕ) (start i : ℕ) (before : start ≤ i) (out all : List ℕ) (so_far : out ++ printed input start i ≡ all) where
-  pub turn_ends : (out' : List ℕ) (start' : ℕ) → i < length input → get_or input i 0 ≡ 10 → start' ≡ i + 1 → out' ≡ out ++ line_text (line_hash (begun input start i)) → out' ++ printed input start' (i + 1) ≡ all
-  turn_ends out' start' h e s o =
-      ap (λ (n : ℕ). out' ++ printed input n (i + 1)) s
-      ∙ ap (λ (l : List ℕ). l ++ printed input (i + 1) (i + 1)) o
-      ∙ append_assoc out (line_text (line_hash (begun input start i))) (printed input (i + 1) (i + 1))
-      ∙ ap (λ (l : List ℕ). out ++ l) (sym (line-ends input start i before h e))
-      ∙ so_far
-
-  pub turn_goes_on : (out' : List ℕ) (start' : ℕ) → i < length input → (get_or input i 0 ≡ 10 → ⊥) → start' ≡ start → out' ≡ out → out' ++ printed input start' (i + 1) ≡ all
-  turn_goes_on out' start' h e s o =
-      ap (λ (n : ℕ). out' ++ printed input n (i + 1)) s
-      ∙ ap (λ (l : List ℕ). l ++ printed input start (i + 1)) o
-      ∙ ap (λ (l : List ℕ). out ++ l) (sym (line-goes_on input start i before h e))
-      ∙ so_far
-
-  -- the walk's end
-  pub end_unfinished : (out' : List ℕ) → length input ≤ i → i ≤ length input → start < length input → out' ≡ out ++ line_text none → out' ≡ all
-  end_unfinished out' h k s o = o ∙ ap (λ (l : List ℕ). out ++ l) (sym (line-unfinished input start i before h k (omega arith))) ∙ so_far
-
-  pub end_finished : (out' : List ℕ) → length input ≤ i → i ≤ length input → length input ≤ start → out' ≡ out → out' ≡ all
-  end_finished out' h k s o = o ∙ sym (append-nil out) ∙ ap (λ (l : List ℕ). out ++ l) (sym (lines_end input start i before h (omega arith))) ∙ so_far
+pub ruleset lines = (text_of_lines-cut, text_of_lines-rest, unfinished-some, unfinished-none, append_assoc, append-nil)

@@ -5,36 +5,33 @@ ghost use Rattle.std.specs.Prelude.{◌≡◌, ◌%◌, [], ◌++◌, OnOk};
 ghost use Rattle.shared.specs.Answers.{optional};
 ghost use Rattle.vector_lines.specs.Lines.{part_hash, family_hash, line_hash, hex_digit, hex_digits, line_text, text_of_lines};
 
-use line_forms::{first_of, inside, push_line};
+use line_forms::{inside, push_line, push_refused, split_once};
 use shared::kinds::HashFamily;
 use shared_families::fnv::{Fnv, fnv_1a};
 use shared_families::pearson::Pearson;
 use shared_kinds::part_number::PartNumber;
 use shared_text::number::read_number;
 use std::alloc::AllocError;
+use std::array;
 
 fn part_hash<F: HashFamily>(family: &F, text: &[u8], seed: u16) -> Option<u32>
     ensures { optional result ≡ part_hash (F.HashFamily.hash family.now) text.now seed }
 {
-    match PartNumber::new(text) {
-        Ok(part) => Some(family.hash_of(seed, &part)),
-        Err(_) => None,
-    }
+    let part = PartNumber::try_from(text).ok()?;
+    Some(family.hash_of(seed, &part))
 }
 
 // `SEED TEXT`, hashed by a family.
 fn family_hash<F: HashFamily>(family: &F, text: &[u8]) -> Option<u32>
     ensures { optional result ≡ family_hash (F.HashFamily.hash family.now) text.now }
 {
-    let at = first_of(text, b' ');
-    if at >= text.len() {
-        return None;
-    }
-    let seed = read_number(&text[0..at], 0, 319)?;
-    part_hash(family, &text[at + 1..], seed as u16)
+    let (seed, part) = split_once(text, b' ')?;
+    let seed = read_number(seed, 0, 319)?;
+    part_hash(family, part, seed as u16)
 }
 
-// The hash that a line asks for; none where the line is bad.
+// The hash that a line asks for; none where the line is bad. Three prefixes, tested one after the other: a table of closures
+// would say no more.
 pub fn line_hash(line: &[u8]) -> Option<u32>
     ensures { optional result ≡ line_hash line.now }
 {
@@ -50,6 +47,7 @@ pub fn line_hash(line: &[u8]) -> Option<u32>
     None
 }
 
+// By arithmetic: a table of sixteen digits says no more.
 fn hex_digit(value: u32) -> u8
     ensures { result ≡ hex_digit (value % 16) }
 {
@@ -65,16 +63,7 @@ fn hex_digit(value: u32) -> u8
 pub fn hex(n: u32) -> [u8; 8]
     ensures { result ≡ hex_digits n }
 {
-    [
-        hex_digit(n >> 28),
-        hex_digit(n >> 24),
-        hex_digit(n >> 20),
-        hex_digit(n >> 16),
-        hex_digit(n >> 12),
-        hex_digit(n >> 8),
-        hex_digit(n >> 4),
-        hex_digit(n),
-    ]
+    array::from_fn(|i| hex_digit(n >> (28 - 4 * i)))
 }
 
 // What is printed of a line. Here and below only want of memory is an error.
@@ -83,23 +72,22 @@ fn answer_line(line: &[u8], out: &mut Vec<u8>) -> Result<(), AllocError>
 {
     match line_hash(line) {
         Some(hash) => push_line(&hex(hash), out),
-        None => push_line(b"(refused 14)", out),
+        None => push_refused(out),
     }
 }
 
 // What is printed of all the lines of an input.
+#[tactic(auto, using(crate::proofs::Splits::lines))]
 pub fn answer_lines(input: &[u8], out: &mut Vec<u8>) -> Result<(), AllocError>
     ensures { OnOk result (out.new.items ≡ out.old.items ++ text_of_lines [] input.now) }
 {
-    let mut start = 0;
-    for (i, byte) in input.iter().enumerate() {
-        if *byte == b'\n' {
-            answer_line(&input[start..i], out)?;
-            start = i + 1;
-        }
+    let mut rest = input;
+    while let Some((line, behind)) = split_once(rest, b'\n') {
+        answer_line(line, out)?;
+        rest = behind;
     }
-    if start < input.len() {
-        push_line(b"(refused 14)", out)?;
+    if rest.is_empty() {
+        return Ok(());
     }
-    Ok(())
+    push_refused(out)
 }

@@ -1,4 +1,5 @@
 // Reads lines that ask for hashes from standard input, and prints each hash.
+// Its main is much like that of `noticecheck`: two short mains are plainer than one with a closure.
 #![tactic(auto)]
 
 use std::io::{Read, Write};

@@ -1,85 +1,94 @@
-use Rattle.std.proofs.Common.{ℕ, zero, suc, ◌-◌, ◌<◌, [], ◌∷◌, get_or, drop, sym, ap, ◌∙◌, subst, arith, length-drop}
-use mathlib.Core.Option.{some}
-use Rattle.std.proofs.lemmas.List.{take_all}
+use Rattle.std.proofs.Common.{ℕ, ◌-◌, ◌<◌, ◌≤◌, [], ◌∷◌, ◌++◌, length, reverse, sym, ap, ◌∙◌, arith}
+use mathlib.Core.Option.{Option, some}
+use Rattle.shared.specs.Book.{walk}
+use Rattle.shared.specs.Lists.{◌then◌}
 use Rattle.book_slots.specs.Slots.{slot_in}
 use Rattle.book_slots.proofs.Firsts.{answer-more, answer-here, answer-none}
-use Rattle.book_chains.specs.Paths.{next_of, path_of, Picked}
-use Rattle.book_chains.proofs.Ways.{through, walk-shut, walk-open, walk-some, through-none, through-dead, through-live, at-longer, down_more, picked_more}
+use Rattle.book_chains.specs.Paths.{path_of}
+use Rattle.book_chains.proofs.Ways.{through, walk-some, walk-none, through-none, through-dead, through-live, goes, four-at, picks_more, popped}
 use Rattle.book_chains.proofs.+walk_from.Goals as goal
-use Rattle.book_chains.proofs.+walk_from.Goals.{in-Some+in_default-walk_from, in_default}
+use Rattle.book_chains.proofs.+walk_from.Goals.{in-Some+in_default-rest, in_default}
 
-pub returns-in_err-lowest_empty : goal.returns-in_err-lowest_empty
-returns-in_err-lowest_empty g t c =
-    let slot = slot_in g.P.PartKind.bytes g.S.SettingKind.numbers c.args.slots.now in
-    record {
-      is = ap (path_of c.args.moves) c.from_residual.ensures ∙ walk-shut c.args.sizes (g.F.HashFamily.hash c.args.family.now) slot c.args.moves (get_or c.args.trail c.args.depth 0) (drop c.args.depth c.args.trail) c.if-moves-eq0.true c.in_err-lowest_empty.ensures.is;
-      low = subst Picked (sym c.from_residual.ensures) tt;
-    }
+pub returns-in_err-lowest_empty-clause-is : goal.returns-in_err-lowest_empty-clause-is
+returns-in_err-lowest_empty-clause-is g t c =
+    let slot = slot_in g.P.PartKind.bytes g.S.SettingKind.numbers c.args.shelf.now.slots.now in
+    ap path_of c.from_residual.ensures
+    ∙ ap (λ (x : Option ℕ). x then (λ i. some [])) c.in_err-lowest_empty.ensures.is
+    ∙ sym (walk-none c.args.shelf.now.sizes (g.F.HashFamily.hash c.args.family.now) slot c.args.moves c.args.bucket (reverse c.args.trail.now.items) c.if-moves-eq0.true)
 
--- no slot is picked yet
-noughts : (k : ℕ) → get_or (0 ∷ 0 ∷ 0 ∷ 0 ∷ []) k 0 < 4
-noughts zero = omega arith
-noughts (suc zero) = omega arith
-noughts (suc (suc zero)) = omega arith
-noughts (suc (suc (suc zero))) = omega arith
-noughts (suc (suc (suc (suc k)))) = omega arith
+pub returns-then-moves-eq0-clause-is : goal.returns-then-moves-eq0-clause-is
+returns-then-moves-eq0-clause-is g t c =
+    let slot = slot_in g.P.PartKind.bytes g.S.SettingKind.numbers c.args.shelf.now.slots.now in
+    ap (λ l. some (reverse l)) c.new.ensures
+    ∙ ap (λ (x : Option ℕ). x then (λ i. some [])) c.in_ok-lowest_empty.ensures.is
+    ∙ sym (walk-none c.args.shelf.now.sizes (g.F.HashFamily.hash c.args.family.now) slot c.args.moves c.args.bucket (reverse c.args.trail.now.items) c.if-moves-eq0.true)
 
-pub returns-then-moves-eq0 : goal.returns-then-moves-eq0
-returns-then-moves-eq0 g t c =
-    let slot = slot_in g.P.PartKind.bytes g.S.SettingKind.numbers c.args.slots.now in
-    record {
-      is = walk-open c.args.sizes (g.F.HashFamily.hash c.args.family.now) slot c.args.moves (get_or c.args.trail c.args.depth 0) (drop c.args.depth c.args.trail) c.in_ok-lowest_empty.field-0 (0 ∷ 0 ∷ 0 ∷ 0 ∷ []) c.if-moves-eq0.true c.in_ok-lowest_empty.ensures.is;
-      low = noughts;
-    }
-
-pub returns-in-Some-walk_from : goal.returns-in-Some-walk_from
-returns-in-Some-walk_from g t c =
+pub returns-in-Some-rest-clause-is : goal.returns-in-Some-rest-clause-is
+returns-in-Some-rest-clause-is g t c =
     let pos : 0 < c.args.moves = omega (arith, c.if-moves-eq0.false) in
-    let z = c.args.sizes in
+    let few : c.loop-i.i < 4 = omega (arith, ap length c.four-slot-items.ensures, c.loop-i-test.true) in
+    let z = c.args.shelf.now.sizes in
     let hash = g.F.HashFamily.hash c.args.family.now in
-    let slot = slot_in g.P.PartKind.bytes g.S.SettingKind.numbers c.args.slots.now in
+    let bytes = g.P.PartKind.bytes in
+    let numbers = g.S.SettingKind.numbers in
+    let xs = c.args.shelf.now.slots.now in
+    let slot = slot_in bytes numbers xs in
     let m = c.args.moves in
-    let j = get_or c.args.trail c.args.depth 0 in
-    let seen = drop c.args.depth c.args.trail in
+    let j = c.args.bucket in
     let i = c.loop-i.i in
-    let goes = c.in-Some.ensures.is ∙ ap (next_of z hash slot j i) (take_all (5 - c.args.depth) seen (omega (arith, length-drop c.args.depth c.args.trail))) in
-    let rest = c.in-Some-walk_from.ensures.is ∙ at-longer z hash slot (m - 1) c.args.trail c.args.depth c.in-Some.next (omega arith) (omega arith) in
-    record {
-      is = ap some (down_more c.in-Some-walk_from.found m i pos (omega arith))
-          ∙ sym (answer-here (through z hash slot (m - 1) j seen) i 4 _ c.loop-i-test.true (through-live z hash slot (m - 1) j seen i c.in-Some.next _ goes rest))
-          ∙ c.loop-i.invariant
-          ∙ sym (walk-some z hash slot m j seen pos);
-      low = picked_more c.in-Some-walk_from.found (m - 1) i (omega arith) c.loop-i-test.true c.in-Some-walk_from.ensures.low;
-    }
+    let trail = c.args.trail.now.items in
+    let kept = ap (λ v. v.items) c.loop-i.invariant.kept in
+    let next = goes z hash slot j i _ _ trail _ (four-at bytes numbers xs j i c.slot-item.result _ c.four-slot-items.ensures few c.slot-item.is) (c.deref.ensures.0 ∙ kept) c.in-Some.ensures.is in
+    let rest = c.in-Some-rest.ensures.is ∙ ap (λ l. walk z hash slot (m - 1) c.in-Some.next (reverse l)) (c.push.ensures.items ∙ ap (λ l. l ++ (c.in-Some.next ∷ [])) kept) in
+    ap (λ l. some (reverse l)) c.push-in-Some-rest.ensures.items
+    ∙ sym (answer-here (through z hash slot (m - 1) j (reverse trail)) i 4 _ few (through-live z hash slot (m - 1) j trail i c.in-Some.next c.in-Some-rest.slots.items next rest))
+    ∙ c.loop-i.invariant.found
+    ∙ sym (walk-some z hash slot m j (reverse trail) pos)
+
+pub returns-in-Some-rest-clause-low : goal.returns-in-Some-rest-clause-low
+returns-in-Some-rest-clause-low g t c =
+    picks_more c.in-Some-rest.slots.items _ c.args.moves c.loop-i.i (omega (arith, c.if-moves-eq0.false)) (omega (arith, ap length c.four-slot-items.ensures, c.loop-i-test.true)) c.push-in-Some-rest.ensures.items c.in-Some-rest.ensures.low
 
 pub loop-i-preserved : goal.loop-i-preserved
 loop-i-preserved g t c =
-    let z = c.args.sizes in
+    let few : c.loop-i.i < 4 = omega (arith, ap length c.four-slot-items.ensures, c.loop-i-test.true) in
+    let z = c.args.shelf.now.sizes in
     let hash = g.F.HashFamily.hash c.args.family.now in
-    let slot = slot_in g.P.PartKind.bytes g.S.SettingKind.numbers c.args.slots.now in
-    let m = c.args.moves in
-    let j = get_or c.args.trail c.args.depth 0 in
-    let seen = drop c.args.depth c.args.trail in
+    let bytes = g.P.PartKind.bytes in
+    let numbers = g.S.SettingKind.numbers in
+    let xs = c.args.shelf.now.slots.now in
+    let slot = slot_in bytes numbers xs in
+    let m = c.args.moves - 1 in
+    let j = c.args.bucket in
     let i = c.loop-i.i in
-    let all = ap (next_of z hash slot j i) (take_all (5 - c.args.depth) seen (omega (arith, length-drop c.args.depth c.args.trail))) in
-    let more = answer-more (through z hash slot (m - 1) j seen) i 4 c.loop-i-test.true in
+    let trail = c.args.trail.now.items in
+    let kept = ap (λ v. v.items) c.loop-i.invariant.kept in
+    let read = four-at bytes numbers xs j i c.slot-item.result _ c.four-slot-items.ensures few c.slot-item.is in
+    let seen = c.deref.ensures.0 ∙ kept in
+    let more = answer-more (through z hash slot m j (reverse trail)) i 4 few in
     elim c.match-next_bucket.branch [
-      | in-Some+in_default-walk_from w ↦
-          sym (more (through-dead z hash slot (m - 1) j seen i w.in-Some.next (w.in-Some.ensures.is ∙ all) (w.in_default-walk_from.ensures.is ∙ at-longer z hash slot (m - 1) c.args.trail c.args.depth w.in-Some.next (omega arith) (omega arith))))
-          ∙ c.loop-i.invariant
-      | in_default w ↦ sym (more (through-none z hash slot (m - 1) j seen i (w.in_default.ensures.is ∙ all))) ∙ c.loop-i.invariant
+      | in-Some+in_default-rest w ↦
+          let o = w.in-Some.next in
+          let rest = w.in_default-rest.ensures.is ∙ ap (λ l. walk z hash slot m o (reverse l)) (w.push.ensures.items ∙ ap (λ l. l ++ (o ∷ [])) kept) in
+          record {
+            kept = w.trail-is ∙ popped c.loop-i.trail _ _ _ o w.push.ensures.items w.walk_from-rest.ensures.same w.pop.ensures.rest ∙ c.loop-i.invariant.kept;
+            found = sym (more (through-dead z hash slot m j trail i o (goes z hash slot j i _ _ trail _ read seen w.in-Some.ensures.is) rest)) ∙ c.loop-i.invariant.found;
+          }
+      | in_default w ↦
+          record {
+            kept = w.trail-is ∙ c.loop-i.invariant.kept;
+            found = sym (more (through-none z hash slot m j trail i (goes z hash slot j i _ _ trail _ read seen w.in_default.ensures.is))) ∙ c.loop-i.invariant.found;
+          }
     ]
 
-pub returns : goal.returns
-returns g t c =
+pub returns-clause-is : goal.returns-clause-is
+returns-clause-is g t c =
     let pos : 0 < c.args.moves = omega (arith, c.if-moves-eq0.false) in
-    let z = c.args.sizes in
+    let last : 4 ≤ c.loop-i.i = omega (arith, ap length c.four-slot-items.ensures, c.loop-i-test.false) in
+    let z = c.args.shelf.now.sizes in
     let hash = g.F.HashFamily.hash c.args.family.now in
-    let slot = slot_in g.P.PartKind.bytes g.S.SettingKind.numbers c.args.slots.now in
-    let m = c.args.moves in
-    let j = get_or c.args.trail c.args.depth 0 in
-    let seen = drop c.args.depth c.args.trail in
-    record {
-      is = sym (answer-none (through z hash slot (m - 1) j seen) c.loop-i.i 4 c.loop-i-test.false) ∙ c.loop-i.invariant ∙ sym (walk-some z hash slot m j seen pos);
-      low = tt;
-    }
+    let slot = slot_in g.P.PartKind.bytes g.S.SettingKind.numbers c.args.shelf.now.slots.now in
+    let seen = reverse c.args.trail.now.items in
+    sym (answer-none (through z hash slot (c.args.moves - 1) c.args.bucket seen) c.loop-i.i 4 last)
+    ∙ c.loop-i.invariant.found
+    ∙ sym (walk-some z hash slot c.args.moves c.args.bucket seen pos)

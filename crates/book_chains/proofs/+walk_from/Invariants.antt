@@ -1,4 +1,4 @@
-use Rattle.std.proofs.Common.{◌≡◌, ◌-◌, drop}
+use Rattle.std.proofs.Common.{◌≡◌, ◌-◌, reverse}
 use Rattle.shared.specs.Lists.{first_answer}
 use Rattle.book_slots.specs.Slots.{slot_in}
 use Rattle.book_chains.proofs.Ways.{through}
@@ -9,6 +9,6 @@ decreases-walk_from g l = l.moves
 
 abbrev pub invariant-loop-i : goal.invariant-loop-i
 invariant-loop-i g l =
-    let slot = slot_in g.P.PartKind.bytes g.S.SettingKind.numbers l.slots in
-    let way = through l.sizes (g.F.HashFamily.hash l.family) slot (l.moves - 1) l.bucket (drop l.depth l.trail) in
-    first_answer way l.i (4 - l.i) ≡ first_answer way 0 4
+    let slot = slot_in g.P.PartKind.bytes g.S.SettingKind.numbers l.shelf.slots.now in
+    let way = through l.shelf.sizes (g.F.HashFamily.hash l.family) slot (l.moves - 1) l.bucket (reverse l.fn.trail.items) in
+    record { kept : l.trail ≡ l.fn.trail; found : first_answer way l.i (4 - l.i) ≡ first_answer way 0 4 }

@@ -1,53 +1,27 @@
-use Rattle.std.proofs.Common.{true, false, sym, ◌∙◌, arith}
-use Rattle.book_slots.specs.declared.Slot.TheVariants.{Empty, Held}
-use Rattle.book_slots.specs.Slots.{slot_in}
-use Rattle.book_slots.proofs.Slots.{seen_as}
-use Rattle.book_chains.proofs.Ways.{contains_memb, other-is, other-low, next-none, next-some}
+use Rattle.std.proofs.Common.{true, false, ap, ◌∙◌}
+use Rattle.book_slots.specs.Slots.{viewed, held_as}
+use Rattle.book_chains.specs.Paths.{next_of}
+use Rattle.book_chains.proofs.Ways.{next-held}
 use Rattle.book_chains.proofs.next_bucket.Goals as goal
 
-pub returns-in_default : goal.returns-in_default
-returns-in_default g c =
+pub returns-then-contains-clause-is : goal.returns-then-contains-clause-is
+returns-then-contains-clause-is g c =
     let bytes = g.P.PartKind.bytes in
     let numbers = g.S.SettingKind.numbers in
-    let xs = c.args.slots.now in
-    let j = c.args.bucket in
-    let i = c.args.i in
-    let empty = seen_as bytes numbers xs j i c.index-slots-bucket.result Empty (omega arith) (omega arith) c.index-slots-bucket.is c.in_default.is in
-    record { is = sym (next-none c.args.sizes (g.F.HashFamily.hash c.args.family.now) (slot_in bytes numbers xs) j i c.args.seen.now empty); low = tt }
-
-pub returns-then-contains : goal.returns-then-contains
-returns-then-contains g c =
-    let bytes = g.P.PartKind.bytes in
-    let numbers = g.S.SettingKind.numbers in
-    let xs = c.args.slots.now in
-    let j = c.args.bucket in
-    let i = c.args.i in
     let z = c.args.sizes in
     let hash = g.F.HashFamily.hash c.args.family.now in
-    let held = seen_as bytes numbers xs j i c.index-slots-bucket.result (Held c.in-Held.part c.in-Held.setting) (omega arith) (omega arith) c.index-slots-bucket.is c.in-Held.is in
-    let o = c.other-other.result in
-    record {
-      is = sym (next-some z hash (slot_in bytes numbers xs) j i c.args.seen.now _ o true held
-          (c.other-other.ensures ∙ other-is z hash (bytes c.in-Held.part) c.places_of.result c.places_of.ensures j)
-          (sym c.if-contains.true ∙ contains_memb c.args.seen.now o c.contains.result c.contains.ensures.cases));
-      low = tt;
-    }
+    let j = c.args.bucket in
+    let seen = c.args.seen.now in
+    next-held z hash (held_as bytes numbers c.in_ok-held.held.now) j seen c.places_of.result c.places_of.ensures c.other-other.result c.other-other.ensures c.contains.result true c.contains.ensures.cases c.if-contains.true
+    ∙ ap (λ x. next_of z hash (viewed bytes numbers x) j seen) c.in_ok-held.ensures.value
 
-pub returns-else-contains : goal.returns-else-contains
-returns-else-contains g c =
+pub returns-else-contains-clause-is : goal.returns-else-contains-clause-is
+returns-else-contains-clause-is g c =
     let bytes = g.P.PartKind.bytes in
     let numbers = g.S.SettingKind.numbers in
-    let xs = c.args.slots.now in
-    let j = c.args.bucket in
-    let i = c.args.i in
     let z = c.args.sizes in
     let hash = g.F.HashFamily.hash c.args.family.now in
-    let held = seen_as bytes numbers xs j i c.index-slots-bucket.result (Held c.in-Held.part c.in-Held.setting) (omega arith) (omega arith) c.index-slots-bucket.is c.in-Held.is in
-    let o = c.other-other.result in
-    let low = other-low z hash (bytes c.in-Held.part) c.places_of.result c.places_of.ensures j in
-    record {
-      is = sym (next-some z hash (slot_in bytes numbers xs) j i c.args.seen.now _ o false held
-          (c.other-other.ensures ∙ other-is z hash (bytes c.in-Held.part) c.places_of.result c.places_of.ensures j)
-          (sym c.if-contains.false ∙ contains_memb c.args.seen.now o c.contains.result c.contains.ensures.cases));
-      low = omega (arith, c.other-other.ensures, low);
-    }
+    let j = c.args.bucket in
+    let seen = c.args.seen.now in
+    next-held z hash (held_as bytes numbers c.in_ok-held.held.now) j seen c.places_of.result c.places_of.ensures c.other-other.result c.other-other.ensures c.contains.result false c.contains.ensures.cases c.if-contains.false
+    ∙ ap (λ x. next_of z hash (viewed bytes numbers x) j seen) c.in_ok-held.ensures.value

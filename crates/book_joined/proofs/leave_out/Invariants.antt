@@ -1,8 +1,11 @@
-use Rattle.std.proofs.Common.{◌≡◌, take}
-use Rattle.book_joined.specs.Ends.{leaving}
+use Rattle.std.proofs.Common.{◌≡◌, ℕ, ◌<◌, ◌≤◌, cond, [], get_or}
+use Rattle.std.specs.Prelude.{None}
+use Rattle.book_slots.specs.Slots.{holds}
+use Rattle.book_joined.specs.Ends.{pair}
 use Rattle.book_joined.proofs.leave_out.Given as goal
 
 abbrev pub invariant-loop-i : goal.invariant-loop-i
-invariant-loop-i g l =
-    let left = leaving g.P.PartKind.bytes (g.P.PartKind.bytes l.part) l.slots in
-    (take l.i l.kept_a ≡ take l.i (left l.ends_a)) × (take l.i l.kept_b ≡ take l.i (left l.ends_b))
+invariant-loop-i g l = record {
+  done : (k : ℕ) → k < l.i → get_or l.kept k [] ≡ cond (holds g.P.PartKind.bytes (g.P.PartKind.bytes l.part) (get_or l.slots k None)) (pair (0, 0)) (get_or l.ends k []);
+  rest : (k : ℕ) → l.i ≤ k → get_or l.kept k [] ≡ get_or l.ends k [];
+}

@@ -1,16 +1,14 @@
-use Rattle.std.proofs.Common.{List, set, ap, ◌∙◌, arith}
+use Rattle.std.proofs.Common.{ap, ◌∙◌, set}
+use Rattle.std.specs.Prelude.{Some}
 use Rattle.shared.specs.Book.{seed_for}
-use Rattle.book_slots.specs.declared.Slot.{Slot}
-use Rattle.book_slots.specs.declared.Slot.TheVariants.{Held}
 use Rattle.book_slots.specs.Slots.{parts}
-use Rattle.book_slots.proofs.Slots.{four-with, slice_four}
+use Rattle.book_slots.proofs.Slots.{four-with}
 use Rattle.book_seeds.proofs.seed_with.Goals as goal
 
 pub returns : goal.returns
 returns g c =
     let hash = g.F.HashFamily.hash c.args.family.now in
     let bytes = g.P.PartKind.bytes in
-    let xs = c.args.slots.now in
-    c.least_with.ensures
-    ∙ ap (λ (l : List (Slot g.row.P.Denot g.row.S.Denot)). seed_for hash (parts bytes (set l c.args.slot (Held c.args.part c.args.setting)))) (slice_four xs c.args.bucket _ (omega arith) c.requires.0)
-    ∙ ap (seed_for hash) (four-with bytes g.S.SettingKind.numbers xs c.args.bucket c.args.slot c.args.part c.args.setting c.requires.1)
+    c.least_seed.ensures
+    ∙ ap (λ xs. seed_for hash (parts bytes (set xs c.args.spot (Some c.args.held)))) (c.copy_from_slice.ensures.after ∙ c.four_in.ensures)
+    ∙ ap (seed_for hash) (four-with bytes g.S.SettingKind.numbers c.args.slots.now c.args.bucket c.args.spot c.args.held c.requires.spot)

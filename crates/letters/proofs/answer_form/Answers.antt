@@ -1,19 +1,8 @@
-use Rattle.std.proofs.Common.{ℕ, ◌+◌, List, take, vec_items, subst}
-use Rattle.std.proofs.lemmas.List.{take_rest}
-use Rattle.letters.specs.Counts.{Answered}
-use Rattle.letters.specs.Letters.{letter_length, letter_of}
-use Rattle.letters.proofs.Forms.{no_line, line-form}
+use Rattle.std.proofs.Common.{ℕ, ◌++◌, List, vec_items, sym, ap, ◌∙◌}
+use Rattle.letters.proofs.Forms.{form_of-last}
 use Rattle.letters.proofs.answer_form.Goals as goal
 
-pub returns-then-at-input : goal.returns-then-at-input
-returns-then-at-input c = no_line c.args.input.now (vec_items c.args.out.now) (vec_items c.push_line.new.out) c.first_of-at.result c.first_of-at.ensures c.if-at-input.true c.requires.1 c.in_ok-push_line.ensures
-
-pub returns : goal.returns
-returns c =
-    let input = c.args.input.now in
-    let at = c.first_of-at.result in
-    let before = vec_items c.args.out.now in
-    let after = vec_items c.answer_line.new.out in
-    let used = c.in_ok-used.used in
-    line-form input before after at c.first_of-at.ensures used c.if-at-input.false
-    (subst (λ (rest : List ℕ). Answered 0 (letter_of (letter_length (take at input)) rest) rest before after used) (take_rest input (at + 1)) c.in_ok-used.ensures)
+pub returns-in_default-clause-printed : goal.returns-in_default-clause-printed
+returns-in_default-clause-printed c =
+    c.in_ok-push_refused.ensures
+    ∙ ap (λ (form : List ℕ × List ℕ). vec_items c.args.out.now ++ form.0) (sym (form_of-last c.args.input.now c.in_default.ensures.none))

@@ -1,12 +1,15 @@
-use Rattle.std.proofs.Common.{refl}
+use Rattle.std.proofs.Common.{◌≡◌, Err, sym, subst, rules}
 use Rattle.letters.proofs.Rewrites.{read_fault, head_read}
-use Rattle.letters.specs.Counts.{counted}
+use Rattle.letters.specs.Counts.{counted, ReadAs}
 use Rattle.letters.specs.Letters.{trims}
 use Rattle.shared.specs.Notice.{read_notice}
 use Rattle.letters.proofs.read_letter.Goals as goal
 
-pub returns-in-Ok : goal.returns-in-Ok
-returns-in-Ok c = head_read c.args.text.now c.in-Ok.number (record { steps = 0 }) c.walk_notice.new.v refl c.in-Ok.ensures
+pub returns : goal.returns
+returns c = head_read c.args.text.now c.in_ok-number.number c.default-count.result c.walk_notice.new.v (search rules) c.in_ok-number.ensures
 
-pub returns-in-Err : goal.returns-in-Err
-returns-in-Err c = read_fault counted (record { steps = 0 }) c.in-Err.fault (read_notice trims c.args.text.now) c.in-Err.ensures
+pub returns-in_err-number : goal.returns-in_err-number
+returns-in_err-number c =
+    let fault = c.in_err-number.field-0.0 in
+    let same : c.from_residual.result ≡ Err fault = search rules in
+    subst (ReadAs c.args.text.now) (sym same) (read_fault counted c.default-count.result fault (read_notice trims c.args.text.now) c.in_err-number.ensures)

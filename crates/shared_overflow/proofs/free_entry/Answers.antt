@@ -1,18 +1,20 @@
 -- The bucket's own entry is emptied, or there is none.
-use Rattle.std.proofs.Common.{ℕ, ◌<◌, length, get_or, ap, ◌∙◌, arith, rules}
-use Rattle.shared_overflow.specs.Overflow.{unused, mine, first_mine}
-use Rattle.shared_overflow.proofs.Writes.{free_at, free_none, first_hit, no_mine}
+use Rattle.std.proofs.Common.{sym, ◌∙◌, rules}
+use Rattle.shared_overflow.specs.Overflow.{unused, mine}
+use Rattle.shared_overflow.proofs.Writes.{placed, unplaced, none_pass, free_at, free_none}
 use Rattle.shared_overflow.proofs.free_entry.Goals as goal
 
-pub returns-then-own-entries : goal.returns-then-own-entries
-returns-then-own-entries c =
+pub returns-in-Some : goal.returns-in-Some
+returns-in-Some c =
     let es = c.args.entries.now in
     let j = c.args.bucket in
-    let l : first_mine j es < length es = omega (arith, c.place_of-own.ensures) in
-    free_at es c.place_of-own.result j unused unused (search rules) c.if-own-entries.true c.requires
-    (ap (λ (i : ℕ). mine j (get_or es i unused)) c.place_of-own.ensures ∙ first_hit (mine j) es unused l)
+    let found = c.own_entry.ensures.is in
+    let at = placed (mine j) es unused c.in-Some.own (sym found ∙ c.in-Some.is) in
+    free_at es c.in-Some.own _ unused at.1 j (search rules) c.requires at.2
 
-pub returns-else-own-entries : goal.returns-else-own-entries
-returns-else-own-entries c =
+pub returns-in_default : goal.returns-in_default
+returns-in_default c =
     let es = c.args.entries.now in
-    free_none es c.args.bucket (no_mine c.args.bucket es (omega (arith, c.place_of-own.ensures, c.if-own-entries.false)))
+    let j = c.args.bucket in
+    let lost = c.own_entry.ensures.is in
+    free_none es j (none_pass (mine j) es (unplaced (mine j) es (sym lost ∙ c.in_default.is)))

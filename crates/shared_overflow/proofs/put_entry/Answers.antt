@@ -1,49 +1,45 @@
 -- The entry goes over the bucket's own, or over an unused one.
-use Rattle.std.proofs.Common.{◌≡◌, ℕ, ◌<◌, ◌≤◌, Bool, true, false, not, List, length, get_or, sym, refl, ap, ◌∙◌, inl, inr, arith}
-use Rattle.std.proofs.lemmas.Bool.{cases_lt, not-true}
-use Rattle.shared_overflow.specs.declared.Entry.{Entry}
-use Rattle.shared_overflow.specs.Overflow.{unused, mine, one, times, used_in, first_mine, first_free}
-use Rattle.shared_overflow.proofs.Writes.{put-at, first_hit, no_mine, no_free, within, unused-mine}
+use Rattle.std.proofs.Common.{◌≡◌, ℕ, ◌≤◌, Bool, true, not, get_or, sym, refl, ap, ◌∙◌, inl, inr, rules, tests, arith}
+use Rattle.std.proofs.lemmas.Iterator.{YieldsList-from_slice}
+use Rattle.std.proofs.lemmas.Iterator.Search.{position_from_yields_List}
+use Rattle.std.proofs.lemmas.Bool.{not-true}
+use Rattle.std.proofs.lemmas.List.Sums.{get_or-le-sum_by}
+use Rattle.shared_overflow.specs.Overflow.{unused, mine, one, times}
+use Rattle.shared_overflow.proofs.Writes.{placed, unplaced, none_pass, all_used, put-at, unused-mine}
 use Rattle.shared_overflow.proofs.put_entry.Goals as goal
-
--- there is an unused entry
-room : (es : List Entry) (j own free : ℕ) → own ≡ first_mine j es → length es ≤ own → (times es j ≡ 0 → used_in es < length es) → free ≡ first_free es → free < length es
-room es j own free e h f g =
-    elim (cases_lt free (length es)) [ inl l ↦ l | inr l ↦ absurd (omega (arith, no_free es (omega arith), f (no_mine j es (omega arith)))) ]
-
-pub offset_bounds-entries-free : goal.offset_bounds-entries-free
-offset_bounds-entries-free c =
-    let free = room c.args.entries.now c.args.bucket c.place_of-own.result c.free_place-free.result in
-    omega (arith, free c.place_of-own.ensures c.if-own-entries.false c.requires.1 c.free_place-free.ensures)
-
-pub bounds-entries-free : goal.bounds-entries-free
-bounds-entries-free c =
-    let free = room c.args.entries.now c.args.bucket c.place_of-own.result c.free_place-free.result in
-    omega (arith, free c.place_of-own.ensures c.if-own-entries.false c.requires.1 c.free_place-free.ensures)
 
 least : (b : Bool) (n : ℕ) → b ≡ true → one b ≤ n → n ≤ 1 → n ≡ one b
 least b n e l h = omega (arith, ap one e)
 
-pub returns-then-own-entries : goal.returns-then-own-entries
-returns-then-own-entries c =
+pub returns-in-Some : goal.returns-in-Some
+returns-in-Some c =
     let es = c.args.entries.now in
     let j = c.args.bucket in
-    let own = c.place_of-own.result in
-    let l : first_mine j es < length es = omega (arith, c.place_of-own.ensures) in
-    let m : mine j (get_or es own unused) ≡ true =
-    ap (λ (i : ℕ). mine j (get_or es i unused)) c.place_of-own.ensures ∙ first_hit (mine j) es unused l in
-    put-at es own j c.args.seed _ unused refl c.if-own-entries.true
-    (least _ (times es j) m (within es own unused j c.if-own-entries.true) c.requires.0) (inl m)
+    let own = c.in-Some.own in
+    let found = c.own_entry.ensures.is in
+    let at = placed (mine j) es unused own (sym found ∙ c.in-Some.is) in
+    put-at es own _ unused at.1 j c.args.seed refl (omega (arith, at.0))
+    (least _ (times es j) at.2 (get_or-le-sum_by (λ e. one (mine j e)) es own unused at.1) c.requires.once) (inl at.2)
 
-pub returns-else-own-entries : goal.returns-else-own-entries
-returns-else-own-entries c =
+pub returns-in-Some-position : goal.returns-in-Some-position
+returns-in-Some-position c =
     let es = c.args.entries.now in
     let j = c.args.bucket in
-    let free = c.free_place-free.result in
-    let i : free < length es = room es j c.place_of-own.result free c.place_of-own.ensures c.if-own-entries.false c.requires.1 c.free_place-free.ensures in
-    let l : first_free es < length es = omega (arith, c.free_place-free.ensures) in
-    let gone : times es j ≡ 0 = no_mine j es (omega (arith, c.place_of-own.ensures, c.if-own-entries.false)) in
-    let u : (get_or es free unused).used ≡ false =
-    ap (λ (i : ℕ). (get_or es i unused).used) c.free_place-free.ensures
-    ∙ not-true (get_or es (first_free es) unused).used (first_hit (λ e. not e.used) es unused l) in
-    put-at es free j c.args.seed _ unused refl i (gone ∙ sym (ap one (unused-mine j (get_or es free unused) u))) (inr u)
+    let free = c.in-Some-position.free in
+    let lost = c.own_entry.ensures.is in
+    let found = position_from_yields_List (λ e. not e.used) _ _ c.position.result c.position.ensures.ran (YieldsList-from_slice es cc) (λ x b q k. search (rules, tests)) in
+    let far = unplaced (mine j) es (sym lost ∙ c.in_default.is) in
+    let at = placed (λ e. not e.used) es unused free (sym found ∙ c.in-Some-position.is) in
+    let u = not-true (get_or es free unused).used at.2 in
+    put-at es free _ unused at.1 j c.args.seed refl (omega (arith, at.1, far))
+    (none_pass (mine j) es far ∙ sym (ap one (unused-mine j (get_or es free unused) u))) (inr u)
+
+pub returns-in_default-position : goal.returns-in_default-position
+returns-in_default-position c =
+    let es = c.args.entries.now in
+    let j = c.args.bucket in
+    let lost = c.own_entry.ensures.is in
+    let full = position_from_yields_List (λ e. not e.used) _ _ c.position.result c.position.ensures.ran (YieldsList-from_slice es cc) (λ x b q k. search (rules, tests)) in
+    let none = none_pass (mine j) es (unplaced (mine j) es (sym lost ∙ c.in_default.is)) in
+    let all = all_used es (none_pass (λ e. not e.used) es (unplaced (λ e. not e.used) es (sym full ∙ c.in_default-position.is))) in
+    absurd (omega (arith, c.requires.room none, all))

@@ -1,23 +1,13 @@
-use Rattle.std.proofs.Common.{vec_items, refl, ap, ◌∙◌, arith}
-use Rattle.vector_lines.proofs.Splits.{turn_ends, turn_goes_on, end_unfinished, end_finished}
+use Rattle.std.proofs.Common.{◌≡◌, ◌<◌, ◌++◌, ℕ, List, [], length, OnOk, vec_items, sym, ap, ◌∙◌, subst, arith}
+use Rattle.std.proofs.lemmas.Bool.Decides.{nat_tests}
+use Rattle.vector_lines.proofs.Splits.{text_of_lines-rest, unfinished-some}
 use Rattle.vector_lines.proofs.answer_lines.Goals as goal
-use Rattle.vector_lines.proofs.answer_lines.Goals.{then-byte-eq10+in_ok-answer_line, else-byte-eq10}
 
-pub loop-i-preserved : goal.loop-i-preserved
-loop-i-preserved c =
-    let l = c.loop-i in
-    let input = c.args.input.now in
-    elim c.if-byte-eq10.branch [
-      | then-byte-eq10+in_ok-answer_line w ↦ (omega (arith, w.start-is), turn_ends input l.start l.i l.invariant.0 (vec_items l.out) _ l.invariant.1 _ _ c.loop-i-test.true w.if-byte-eq10.true w.start-is (ap vec_items w.out-is ∙ w.in_ok-answer_line.ensures))
-      | else-byte-eq10 w ↦ (omega (arith, w.start-is, l.invariant.0), turn_goes_on input l.start l.i l.invariant.0 (vec_items l.out) _ l.invariant.1 _ _ c.loop-i-test.true w.if-byte-eq10.false w.start-is (ap vec_items w.out-is))
-    ]
-
-pub returns-in_ok-push_line : goal.returns-in_ok-push_line
-returns-in_ok-push_line c =
-    let l = c.loop-i in
-    end_unfinished c.args.input.now l.start l.i l.invariant.0 (vec_items l.out) _ l.invariant.1 _ c.loop-i-test.false l.auto.i-end c.if-start-input.true c.in_ok-push_line.ensures
-
-pub returns-else-start-input : goal.returns-else-start-input
-returns-else-start-input c =
-    let l = c.loop-i in
-    end_finished c.args.input.now l.start l.i l.invariant.0 (vec_items l.out) _ l.invariant.1 _ c.loop-i-test.false l.auto.i-end c.if-start-input.false refl
+pub returns : goal.returns
+returns c =
+    let rest = c.loop-line.rest.now in
+    let some : 0 < length rest = grind (arith, nat_tests) in
+    let last = text_of_lines-rest [] rest (omega (arith, c.in_default.ensures.none)) ∙ unfinished-some rest some in
+    subst (λ (l : List ℕ). OnOk c.push_refused.result (vec_items c.push_refused.new.out ≡ l))
+    (ap (λ (l : List ℕ). vec_items c.loop-line.out ++ l) (sym last) ∙ c.loop-line.invariant)
+    c.push_refused.ensures

@@ -1,21 +1,11 @@
-use mathlib.Core.Option.{some}
-use Rattle.shared.specs.Book.{Held}
-use Rattle.book_slots.specs.Slots.{slot_in}
-use Rattle.book_chains.specs.Paths.{down_from}
-use Rattle.book_steps.specs.Plans.{placements_of}
-use Rattle.book_enter.proofs.Alongs.{along_at, plan_apart}
+use Rattle.book_slots.specs.Slots.{held_as, slot_in}
+use Rattle.book_enter.proofs.Alongs.{along_sure}
 use Rattle.book_enter.proofs.along.plan_along.Goals as goal
 
-pub returns-in-Some-plan_from : goal.returns-in-Some-plan_from
-returns-in-Some-plan_from g c =
+pub returns-clause-sure : goal.returns-clause-sure
+returns-clause-sure g c =
     let hash = g.F.HashFamily.hash c.args.family.now in
-    let slot = slot_in g.P.PartKind.bytes g.S.SettingKind.numbers c.args.slots.now in
-    let h : Held = (g.P.PartKind.bytes c.args.part, g.S.SettingKind.numbers c.args.setting) in
-    let chain = c.in-Some.chain in
-    let found = c.in-Some.ensures.is in
-    let plan = c.in-Some-plan_from.plan in
-    let made = c.in-Some-plan_from.ensures in
-    record {
-      is = along_at c.args.sizes hash slot h (chain.first, down_from chain.slots chain.moves) found (some (placements_of slot plan h)) made.is;
-      sure = record { fit = made.made.fit; apart = plan_apart c.args.sizes hash slot h (chain.first, down_from chain.slots chain.moves) found plan made.is };
-    }
+    let slot = slot_in g.P.PartKind.bytes g.S.SettingKind.numbers c.args.shelf.now.slots.now in
+    let h = held_as g.P.PartKind.bytes g.S.SettingKind.numbers c.args.held in
+    along_sure c.args.shelf.now.sizes hash slot h c.find_chain.result c.find_chain.ensures.is c.in_ok-chain.chain c.in_ok-chain.ensures.ok_part c.plan_from.result c.deref.result.now c.deref.ensures.0 c.plan_from.ensures.is
+    c.plan_from.ensures.made c.ok_or-2.result c.ok_or-2.ensures.value

@@ -1,12 +1,11 @@
-use Rattle.std.proofs.Common.{◌≡◌}
-use mathlib.Core.Option.{some}
-use Rattle.shared.specs.Lists.{at2}
-use Rattle.book_slots.specs.Slots.{slot_in}
-use Rattle.book_steps.proofs.Fours.{from}
+use Rattle.std.proofs.Common.{◌≡◌, List, map, drop}
+use Rattle.std.specs.Prelude.{Option}
+use Rattle.shared.specs.Book.{held_in, value_at}
+use Rattle.book_slots.specs.declared.Held.{Held}
+use Rattle.book_slots.specs.Slots.{viewed}
 use Rattle.book_steps.proofs.bucket.setting_under.Given as goal
 
-abbrev pub invariant-loop-k : goal.invariant-loop-k
-invariant-loop-k g l =
-    let f = at2 (slot_in g.P.PartKind.bytes g.S.SettingKind.numbers l.slots) l.bucket l.spot (some (g.P.PartKind.bytes l.part, g.S.SettingKind.numbers l.setting)) l.bucket in
-    let at = from (g.F.HashFamily.hash l.family) g.S.SettingKind.blanks l.seed l.place f in
-    at l.k ≡ at 0
+abbrev pub invariant-loop-slot : goal.invariant-loop-slot
+invariant-loop-slot g l =
+    let found = λ (xs : List (Option (Held g.row.P.Denot g.row.S.Denot))). value_at (g.F.HashFamily.hash l.family) g.S.SettingKind.blanks l.seed (held_in (map (viewed g.P.PartKind.bytes g.S.SettingKind.numbers) xs)) l.place in
+    found (drop l.slot-index l.four) ≡ found l.four

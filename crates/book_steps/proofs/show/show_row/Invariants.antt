@@ -3,6 +3,4 @@ use Rattle.book_steps.proofs.Shows.{rest}
 use Rattle.book_steps.proofs.show.show_row.Given as goal
 
 abbrev pub invariant-loop-place : goal.invariant-loop-place
-invariant-loop-place g l =
-    fold g.V.StepVisitor.after l.v (rest g.V.StepVisitor.after l.words l.step l.first l.end l.place)
-    ≡ fold g.V.StepVisitor.after l.initial.v (rest g.V.StepVisitor.after l.words l.step l.first l.end l.first)
+invariant-loop-place g l = let after = g.V.StepVisitor.after in fold after l.v (rest after l.words l.step l.place) ≡ fold after l.initial.v (rest after l.words l.step 0)

@@ -1,19 +1,9 @@
 use Rattle.std.proofs.Common.{◌≡◌, ◌+◌, true, false, drop, sym, ap, ◌∙◌, subst, arith}
-use Rattle.std.proofs.lemmas.Result.{err_from_is_err_and}
 use Rattle.shared.specs.Forms.{ascending}
 use Rattle.shared.specs.Tokens.{Space, is_mark, token_of}
 use Rattle.shared_notice.specs.Walks.{beside, walked, flips}
-use Rattle.shared_notice.proofs.Rows.{Along, along_more, along_stops, along_ends}
+use Rattle.shared_notice.proofs.Rows.{Along, along_more, along_ends}
 use Rattle.shared_notice.proofs.notice.walk_places.Goals as goal
-
-pub returns-in_err-place : goal.returns-in_err-place
-returns-in_err-place g c =
-    let text = c.args.text.now in
-    let p = err_from_is_err_and c.from_residual.result c.from_residual.ensures.1 in
-    let s : is_mark Space (token_of (drop c.loop-at.at text)) ≡ true = ap (is_mark Space) (sym c.next_token.ensures.token) ∙ sym c.loop-at-test.ensures in
-    rw (p.1, p.2)
-    (along_stops g.V.StepVisitor.after text c.loop-at.v c.loop-at.low c.loop-at.at (walked g.V.StepVisitor.after flips c.args.v.now ((ascending 65535).reads text c.args.start))
-    c.in_err-place.field-0.0 s (sym c.read_between.ensures.reads ∙ c.in_err-place.was) c.loop-at.invariant.1)
 
 pub loop-at-preserved : goal.loop-at-preserved
 loop-at-preserved g c =
@@ -23,7 +13,7 @@ loop-at-preserved g c =
     let t = c.in_ok-place.ensures in
     let q = along_more g.V.StepVisitor.after text c.loop-at.v c.loop-at.low c.loop-at.at r c.in_ok-place.place c.in_ok-place.to (omega (arith, t.behind)) s
     (sym c.read_between.ensures.reads ∙ c.in_ok-place.was) c.loop-at.invariant.1 in
-    (omega (arith, t.range), subst (λ w. Along g.V.StepVisitor.after text w (c.in_ok-place.place + 1) c.in_ok-place.to r) (sym c.flip.ensures) q)
+    (omega (arith, t.at_most), subst (λ w. Along g.V.StepVisitor.after text w (c.in_ok-place.place + 1) c.in_ok-place.to r) (sym c.flip.ensures) q)
 
 pub returns : goal.returns
 returns g c =

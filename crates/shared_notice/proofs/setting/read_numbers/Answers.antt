@@ -1,27 +1,30 @@
-use Rattle.std.proofs.Common.{◌≡◌, ℕ, ◌+◌, ◌-◌, ◌<◌, List, [], ◌∷◌, ◌++◌, length, take, set, sym, ap, ◌∙◌, add-one, arith, length-set, take-suc-set}
-use Rattle.std.proofs.lemmas.List.{append_assoc}
-use Rattle.std.proofs.lemmas.Result.{err_from_is_err_and}
-use Rattle.shared.specs.Forms.{lead}
+use Rattle.std.proofs.Common.{◌≡◌, ℕ, ◌-◌, ◌≤◌, List, [], ◌∷◌, ◌++◌, length, take, drop, set, Ok, Err, Result, refl, sym, ap, ◌∙◌, append-nil, arith, length-take, length-drop, length-set}
+use borrow.Rule.Slice.PartMut.{put_mid}
+use Rattle.std.proofs.lemmas.List.{at_drop_all}
+use Rattle.shared.specs.Forms.{and_then, lead, times_at}
 use Rattle.shared.specs.Notice.{small, gap}
-use Rattle.shared_notice.proofs.Walks.{times_more, times-stops}
+use Rattle.shared_notice.specs.Walks.{beside}
+use Rattle.shared_notice.proofs.Walks.{then_at}
 use Rattle.shared_notice.proofs.setting.read_numbers.Goals as goal
 
--- one number more in front
-front_more : (values : List ℕ) (i x : ℕ) → i < length values → (ys : List ℕ) → take i values ++ (x ∷ ys) ≡ take (i + 1) (set values i x) ++ ys
-front_more values i x h ys = sym (ap (λ l. l ++ ys) (ap (λ n. take n (set values i x)) (add-one i) ∙ take-suc-set values i x h) ∙ append_assoc (take i values) (x ∷ []) ys)
+beside-cons : {E : Type 0} (x : ℕ) (ys : List ℕ) (r : Result ℕ E) → and_then (beside ys r) (λ y. Ok (x ∷ y.0, y.1)) ≡ beside (x ∷ ys) r
+beside-cons x ys (Ok to) = refl
+beside-cons x ys (Err d) = refl
 
-pub returns-in_err-value : goal.returns-in_err-value
-returns-in_err-value c =
-    let p = err_from_is_err_and c.from_residual-in_err-value.result c.from_residual-in_err-value.ensures.1 in
-    let q = times-stops (lead gap small) c.args.text.now (λ ys. take c.loop-i.i c.loop-i.values ++ ys) c.loop-i.at (c.args.width - c.loop-i.i) (c.args.width - (c.loop-i.i + 1)) c.in_err-value.field-0.0 (omega arith) (sym c.read_next_small.ensures ∙ c.in_err-value.was) in
-    rw (p.1, p.2) (sym q ∙ c.loop-i.invariant.1)
+-- the first number is written, and then all others
+filled : (values ys : List ℕ) (x : ℕ) → 1 ≤ length values → put_mid 1 (length (set values 0 x) - 1) (set values 0 x) ys ≡ x ∷ ys
+filled [] ys x h = absurd (omega arith)
+filled (v ∷ vs) ys x h = ap (λ l. x ∷ (ys ++ l)) (at_drop_all (λ l. l) vs (length (x ∷ vs) - 1) (omega arith)) ∙ ap (λ l. x ∷ l) (append-nil ys)
 
-pub loop-i-preserved : goal.loop-i-preserved
-loop-i-preserved c =
-    let x = c.in_ok-value.value in (
-      simp length-set c.loop-i.invariant.0,
-      sym (times_more (lead gap small) c.args.text.now (λ ys. take c.loop-i.i c.loop-i.values ++ ys) c.loop-i.at (c.args.width - c.loop-i.i)
-          (λ ys. take (c.loop-i.i + 1) (set c.loop-i.values c.loop-i.i x) ++ ys) (c.args.width - (c.loop-i.i + 1)) c.in_ok-value.to x (omega arith)
-          (sym c.read_next_small.ensures ∙ c.in_ok-value.was) (front_more c.loop-i.values c.loop-i.i x (omega arith)))
-          ∙ c.loop-i.invariant.1,
-    )
+others : (values : List ℕ) (x : ℕ) → length (take (length (set values 0 x) - 1) (drop 1 (set values 0 x))) ≡ length values - 1
+others values x = simp (length-take, length-drop, length-set) (omega arith)
+
+pub returns : goal.returns
+returns c =
+    let text = c.args.text.now in
+    let first = c.in_ok-first.first in
+    let next = c.read_next_numbers in
+    ap (λ l. beside l next.result) (filled c.args.values.now next.new.values first c.requires)
+    ∙ sym (beside-cons first next.new.values next.result)
+    ∙ ap (λ z. and_then z (λ y. Ok (first ∷ y.0, y.1))) (next.ensures ∙ ap (λ n. times_at n (lead gap small) text c.in_ok-first.at) (others c.args.values.now first))
+    ∙ sym (then_at _ _ _ (sym c.read_small.ensures ∙ c.in_ok-first.was))

@@ -7,10 +7,10 @@ pub free_entry-requires : goal.free_entry-requires
 free_entry-requires c = at_most c.args.seeds.now c.args.overflow.now c.requires.matched c.args.bucket
 
 pub put_entry-requires : goal.put_entry-requires
-put_entry-requires c = (
-  at_most c.args.seeds.now c.args.overflow.now c.requires.matched c.args.bucket,
-  room_for c.args.seeds.now c.args.overflow.now c.requires.matched c.args.bucket c.args.seed (omega arith) c.requires.room,
-)
+put_entry-requires c = record {
+  once = at_most c.args.seeds.now c.args.overflow.now c.requires.matched c.args.bucket;
+  room = room_for c.args.seeds.now c.args.overflow.now c.requires.matched c.args.bucket c.args.seed (omega arith) c.requires.room;
+}
 
 pub returns-then-seed-lt31 : goal.returns-then-seed-lt31
 returns-then-seed-lt31 c =
