@@ -14,12 +14,13 @@ use book_slots::{MOST_MOVES, MOST_STEPS, Shelf, Slot};
 use shared::kinds::{HashFamily, PartKind, SettingKind};
 use shared::sizes::Sizes;
 use shared_places::{Places, places_of};
+use short_list::ShortList;
 
 // A chain: the bucket that the part goes to, and the slots that the moved parts leave, the last move's first.
-#[derive(Clone, PartialEq, Eq, Debug, Drop)]
+#[derive(Clone, Copy, PartialEq, Eq, Debug)]
 pub struct Chain {
     pub first: u32,
-    pub slots: ArrayVec<u8, MOST_MOVES>,
+    pub slots: ShortList<u8, MOST_MOVES>,
 }
 
 // Where the part in a slot of the bucket can go: to its other bucket, unless that is seen already.
@@ -49,7 +50,7 @@ fn walk_from<F: HashFamily, P: PartKind, S: SettingKind>(
     moves: usize,
     bucket: u32,
     trail: &mut ArrayVec<u32, MOST_STEPS>,
-) -> Option<ArrayVec<u8, MOST_MOVES>>
+) -> Option<ShortList<u8, MOST_MOVES>>
     requires into { bucket < shelf.now.sizes.buckets }
     requires few { moves ≤ MOST_MOVES }
     requires room { length trail.old.items + moves ≤ MOST_STEPS }
@@ -59,7 +60,7 @@ fn walk_from<F: HashFamily, P: PartKind, S: SettingKind>(
 {
     if moves == 0 {
         shelf.lowest_empty(bucket)?;
-        return Some(ArrayVec::new());
+        return Some(ShortList::new());
     }
     for (i, slot) in shelf.four(bucket).iter().enumerate() {
         if let Some(next) = next_bucket(family, shelf.sizes, slot, bucket, trail) {

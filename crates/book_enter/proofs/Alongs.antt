@@ -2,7 +2,7 @@
 use Rattle.std.proofs.Common.{◌≡◌, ℕ, zero, suc, ◌+◌, ◌<◌, ◌≤◌, true, false, eqb, List, [], ◌∷◌, map, length, reverse, None, Some, Option as CodeOption, Result, sym, refl, ap, ◌∙◌, subst, inl, inr, arith}
 use Rattle.std.proofs.Math.Option.{some}
 use Rattle.std.specs.Option.{ok_or}
-use Rattle.arrayvec.specs.ArrayVec.{ArrayVec}
+use Rattle.short_list.specs.Lists.{ShortList}
 use Rattle.std.proofs.lemmas.Bool.{cases_eq, eq-eqb, or_left}
 use Rattle.shared.specs.declared.sizes.Sizes.{Sizes}
 use Rattle.shared.specs.declared.refusal.Refusal.{Refusal}
@@ -45,11 +45,11 @@ module _ (z : Sizes) (hash : Hash) (slot : ℕ → ℕ → Slot) (h : Held) (cho
       let d = planned-distinct z hash slot (reverse c.slots.items) c.first h (c.first ∷ []) own chained.moves (placements_of slot ps h) (sym e) in
       distinct_at (placement_at slot ps h) 0 (length ps) i k d (omega arith) l (omega arith)
 
-  sure_made : (made : CodeOption (ArrayVec Placing)) (m : ℕ) → plan_of slot h made ≡ planned z hash slot c.first h (reverse c.slots.items) → MadeIf z slot m made → SureIf z (ok_or made NoSeed)
+  sure_made : (made : CodeOption (ShortList Placing)) (m : ℕ) → plan_of slot h made ≡ planned z hash slot c.first h (reverse c.slots.items) → MadeIf z slot m made → SureIf z (ok_or made NoSeed)
   sure_made None m e s = refl
   sure_made (Some p) m e s = record { fit = s.fit; apart = plan_apart p.items e }
 
-  pub along_sure : (made : CodeOption (ArrayVec Placing)) (picks : List ℕ) → picks ≡ c.slots.items → plan_of slot h made ≡ planned z hash slot c.first h (reverse picks) → MadeIf z slot (length picks) made
-      → (r : Result (ArrayVec Placing) Refusal) → r ≡ ok_or made NoSeed → SureIf z r
+  pub along_sure : (made : CodeOption (ShortList Placing)) (picks : List ℕ) → picks ≡ c.slots.items → plan_of slot h made ≡ planned z hash slot c.first h (reverse picks) → MadeIf z slot (length picks) made
+      → (r : Result (ShortList Placing) Refusal) → r ≡ ok_or made NoSeed → SureIf z r
   along_sure made picks same e s r gives =
       subst (SureIf z) (sym gives) (sure_made made (length picks) (e ∙ ap (λ (l : List ℕ). planned z hash slot c.first h (reverse l)) same) s)

@@ -1,6 +1,6 @@
 -- The checks of an enter, one after the other, over the book that a memory shows.
 use Rattle.std.proofs.Common.{◌≡◌, ℕ, suc, ◌+◌, ◌<◌, ◌≤◌, Bool, true, false, cond, List, map, length, get_or, Ok, Err, Result, Option as CodeOption, is_some, Some, None, sym, ap, ◌∙◌, subst}
-use Rattle.arrayvec.specs.ArrayVec.{ArrayVec}
+use Rattle.short_list.specs.Lists.{ShortList}
 use Rattle.shared.specs.declared.sizes.Sizes.{Sizes}
 use Rattle.shared.specs.declared.refusal.Refusal.{Refusal}
 use Rattle.shared.specs.declared.refusal.Refusal.TheVariants.{AlreadyJoined, OverflowFull, BufferTooShort}
@@ -66,7 +66,7 @@ module _ {P S : Type 0} (bytes : P → List ℕ) (numbers : S → List ℕ) (has
       pub check_joined : joined ≡ true → Planned z hash kind b room (k, v) (Err AlreadyJoined)
       check_joined e = enter_joined z hash kind b room k v (found-is false new) (joined-is true e)
 
-      module _ (apart : joined ≡ false) (made : Result (ArrayVec Placing) Refusal) (along : placements_in (slots_in shelf.slots.now) (k, v) made ≡ placements_for shelf.sizes hash (slots_in shelf.slots.now) (k, v)) where
+      module _ (apart : joined ≡ false) (made : Result (ShortList Placing) Refusal) (along : placements_in (slots_in shelf.slots.now) (k, v) made ≡ placements_for shelf.sizes hash (slots_in shelf.slots.now) (k, v)) where
         planned-by : by_plan z hash kind b room k v (placements_in b.slot (k, v) made) ≡ called z hash kind b room (enter k v)
         planned-by =
             ap (by_plan z hash kind b room k v) (of_memory (λ y xs. placements_in (slots_in xs) (k, v) made ≡ placements_for y hash (slots_in xs) (k, v)) along)
@@ -74,9 +74,9 @@ module _ {P S : Type 0} (bytes : P → List ℕ) (numbers : S → List ℕ) (has
 
         -- there is no plan
         pub check_plan : (e : Refusal) → made ≡ Err e → Planned z hash kind b room (k, v) (Err e)
-        check_plan e is = subst (λ (r : Result (ArrayVec Placing) Refusal). by_plan z hash kind b room k v (placements_in b.slot (k, v) r) ≡ called z hash kind b room (enter k v)) is planned-by
+        check_plan e is = subst (λ (r : Result (ShortList Placing) Refusal). by_plan z hash kind b room k v (placements_in b.slot (k, v) r) ≡ called z hash kind b room (enter k v)) is planned-by
 
-        module _ (p : ArrayVec Placing) (found : made ≡ Ok p) (spilt : Bool) (plan1 : List Placing) (same1 : plan1 ≡ p.items)
+        module _ (p : ShortList Placing) (found : made ≡ Ok p) (spilt : Bool) (plan1 : List Placing) (same1 : plan1 ≡ p.items)
             (over1 : (slot : ℕ → ℕ → Slot) (h : Held) → spilt ≡ spills z b.seed (placements_of slot plan1 h)) where
           over : (slot : ℕ → ℕ → Slot) (h : Held) → spilt ≡ spills z b.seed (placements_of slot p.items h)
           over slot h = over1 slot h ∙ ap (λ (l : List Placing). spills z b.seed (placements_of slot l h)) same1
@@ -85,7 +85,7 @@ module _ {P S : Type 0} (bytes : P → List ℕ) (numbers : S → List ℕ) (has
           ps = placements_of b.slot p.items (k, v)
 
           goes : by_plan z hash kind b room k v (Ok ps) ≡ called z hash kind b room (enter k v)
-          goes = subst (λ (r : Result (ArrayVec Placing) Refusal). by_plan z hash kind b room k v (placements_in b.slot (k, v) r) ≡ called z hash kind b room (enter k v)) found planned-by
+          goes = subst (λ (r : Result (ShortList Placing) Refusal). by_plan z hash kind b room k v (placements_in b.slot (k, v) r) ≡ called z hash kind b room (enter k v)) found planned-by
 
           spilt-is : (t : Bool) → spilt ≡ t → spills z b.seed ps ≡ t
           spilt-is t e = sym (over b.slot (k, v)) ∙ e

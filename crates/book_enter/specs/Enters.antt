@@ -1,7 +1,7 @@
 -- What the plan of an enter comes to.
 use Rattle.std.specs.Prelude.{◌≡◌, ℕ, ◌+◌, ◌<◌, ◌≤◌, false, List, [], map, length, Ok, Err, Result, ◌≢◌}
 use Rattle.std.proofs.Math.Option.{Option, none, some}
-use Rattle.arrayvec.specs.ArrayVec.{ArrayVec}
+use Rattle.short_list.specs.Lists.{ShortList}
 use Rattle.shared.specs.declared.refusal.Refusal.{Refusal}
 use Rattle.shared.specs.declared.sizes.Sizes.{Sizes}
 use Rattle.shared.specs.Answers.{number_of, values_of}
@@ -28,7 +28,7 @@ abbrev pub placements_for : Sizes → Hash → (ℕ → ℕ → Slot) → Held �
 placements_for z hash slot h = along_chain z hash slot h (chain z hash slot h.0)
 
 -- a plan as the rules' placements, and a refusal as its number
-abbrev pub placements_in : (ℕ → ℕ → Slot) → Held → Result (ArrayVec Placing) Refusal → Result (List Placement) ℕ
+abbrev pub placements_in : (ℕ → ℕ → Slot) → Held → Result (ShortList Placing) Refusal → Result (List Placement) ℕ
 placements_in slot h (Ok p) = Ok (placements_of slot p.items h)
 placements_in slot h (Err e) = Err (number_of e)
 
@@ -41,7 +41,7 @@ pub record Sure (z : Sizes) (ps : List Placing) : Type 0 where
   pub fit : Fit z ps
   pub apart : Apart ps
 
-abbrev pub SureIf : Sizes → Result (ArrayVec Placing) Refusal → Type 0
+abbrev pub SureIf : Sizes → Result (ShortList Placing) Refusal → Type 0
 SureIf z (Ok p) = Sure z p.items
 SureIf z (Err e) = values_of e ≡ []
 
@@ -50,12 +50,12 @@ abbrev pub parts_of : Sizes → Book → List Part
 parts_of z b = map part_of (standing z b.slot)
 
 -- the outcome of an enter that goes by the plan, or is refused
-abbrev pub outcome_by : Sizes → Hash → Setting → Book → Held → Result (ArrayVec Placing) Refusal → Outcome
+abbrev pub outcome_by : Sizes → Hash → Setting → Book → Held → Result (ShortList Placing) Refusal → Outcome
 outcome_by z hash blank b h (Ok p) = let r = outcome_of z hash blank (parts_of z b) b (placements_of b.slot p.items h) in done (raised r.0) r.1
 outcome_by z hash blank b h (Err e) = refused (number_of e)
 
 -- It is the rules' outcome of the call.
-abbrev pub Planned : Sizes → Hash → Kind → Book → ℕ → Held → Result (ArrayVec Placing) Refusal → Type 0
+abbrev pub Planned : Sizes → Hash → Kind → Book → ℕ → Held → Result (ShortList Placing) Refusal → Type 0
 Planned z hash kind b room h r = outcome_by z hash kind.blank b h r ≡ called z hash kind b room (enter h.0 h.1)
 
 -- its steps never use more overflow entries than there are
@@ -71,6 +71,6 @@ pub record Passed (z : Sizes) (hash : Hash) (blank : Setting) (b : Book) (room :
   pub short : (kind : Kind) → notice_length kind (b.number + 1) (shown_steps z hash blank b.slot ps h words) ≤ room
 
 -- a refusal carries nothing but its number
-abbrev pub Turned : Sizes → Hash → Setting → Book → ℕ → Held → List ℕ → Result (ArrayVec Placing) Refusal → Type 0
+abbrev pub Turned : Sizes → Hash → Setting → Book → ℕ → Held → List ℕ → Result (ShortList Placing) Refusal → Type 0
 Turned z hash blank b room h words (Ok p) = Passed z hash blank b room h words p.items
 Turned z hash blank b room h words (Err e) = values_of e ≡ []

@@ -5,7 +5,7 @@ use Rattle.std.proofs.Math.ListN.{get_or-append}
 use Rattle.std.proofs.Math.Seq.{get_or-append_seam}
 use Rattle.std.proofs.lemmas.List.{reverse-append}
 use mathlib.Core.Option.{Option, none, some}
-use Rattle.arrayvec.specs.ArrayVec.{ArrayVec}
+use Rattle.short_list.specs.Lists.{ShortList}
 use Rattle.shared.specs.declared.sizes.Sizes.{Sizes}
 use Rattle.shared.specs.Book.{Held, Slot, other}
 use Rattle.shared.specs.Kinds.{Hash}
@@ -75,13 +75,13 @@ module _ (z : Sizes) (hash : Hash) (slot : ℕ → ℕ → Slot) (j i : ℕ) (h 
 
 -- the plan with its last step
 module _ (z : Sizes) (slot : ℕ → ℕ → Slot) (j i m : ℕ) (h g : Held) (at : slot j i ≡ some g) (ps : List Placing) (made : Made z slot m ps) where
-  pub plan_more : (r : CodeOption (ArrayVec Placing)) (seed : Option ℕ) → steps_of r ≡ with_last ps j i seed → plan_of slot h r ≡ last_step j h (placements_of slot ps g) i seed
+  pub plan_more : (r : CodeOption (ShortList Placing)) (seed : Option ℕ) → steps_of r ≡ with_last ps j i seed → plan_of slot h r ≡ last_step j h (placements_of slot ps g) i seed
   plan_more None none e = refl
   plan_more None (some s) e = absurd (never e)
   plan_more (Some p) none e = absurd (never (sym e))
   plan_more (Some p) (some s) e = ap (λ (l : List Placing). some (placements_of slot l h)) (some_same e) ∙ ap some (placements_more slot ps j i s h g at made.whole)
 
-  pub made_next : (r : CodeOption (ArrayVec Placing)) (seed : Option ℕ) → steps_of r ≡ with_last ps j i seed → m < 4 → j < z.buckets → i < 4 → MadeIf z slot (m + 1) r
+  pub made_next : (r : CodeOption (ShortList Placing)) (seed : Option ℕ) → steps_of r ≡ with_last ps j i seed → m < 4 → j < z.buckets → i < 4 → MadeIf z slot (m + 1) r
   made_next None seed e few lj li = tt
   made_next (Some p) none e few lj li = absurd (never (sym e))
   made_next (Some p) (some s) e few lj li = subst (Made z slot (m + 1)) (sym (some_same e)) (made_more slot ps j i s z m g at few lj li made)

@@ -1,7 +1,7 @@
 -- How a plan is made, from the chain's far end.
 use Rattle.std.specs.Prelude.{◌≡◌, ℕ, ◌+◌, ◌<◌, List, [], ◌∷◌, ◌++◌, length, Some, None, Option as CodeOption}
 use Rattle.std.proofs.Math.Option.{Option, none, some}
-use Rattle.arrayvec.specs.ArrayVec.{ArrayVec}
+use Rattle.short_list.specs.Lists.{ShortList}
 use Rattle.shared.specs.declared.sizes.Sizes.{Sizes}
 use Rattle.shared.specs.Book.{Held, Slot}
 use Rattle.shared.specs.Lists.{◌then◌}
@@ -18,12 +18,12 @@ abbrev pub with_last : List Placing → ℕ → ℕ → Option ℕ → Option (L
 with_last ps j i seed = seed then (λ s. some (ps ++ (placing j i s ∷ [])))
 
 -- a plan's steps
-abbrev pub steps_of : CodeOption (ArrayVec Placing) → Option (List Placing)
+abbrev pub steps_of : CodeOption (ShortList Placing) → Option (List Placing)
 steps_of (Some p) = some p.items
 steps_of None = none
 
 -- a plan as the rules' placements
-abbrev pub plan_of : (ℕ → ℕ → Slot) → Held → CodeOption (ArrayVec Placing) → Option (List Placement)
+abbrev pub plan_of : (ℕ → ℕ → Slot) → Held → CodeOption (ShortList Placing) → Option (List Placement)
 plan_of slot h (Some p) = some (placements_of slot p.items h)
 plan_of slot h None = none
 
@@ -37,6 +37,6 @@ pub record Made (z : Sizes) (slot : ℕ → ℕ → Slot) (m : ℕ) (ps : List P
   pub whole : Whole slot ps
   pub moves : length ps ≡ m + 1
 
-abbrev pub MadeIf : Sizes → (ℕ → ℕ → Slot) → ℕ → CodeOption (ArrayVec Placing) → Type 0
+abbrev pub MadeIf : Sizes → (ℕ → ℕ → Slot) → ℕ → CodeOption (ShortList Placing) → Type 0
 MadeIf z slot m (Some p) = Made z slot m p.items
 MadeIf z slot m None = Unit {0}

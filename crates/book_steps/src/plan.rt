@@ -1,6 +1,8 @@
 // The plan of an enter: which buckets its steps write.
-use arrayvec::ArrayVec;
+ghost use Rattle.book_steps.specs.declared.plan.Placing.{Placing};
+
 use book_slots::MOST_STEPS;
+use short_list::{Blank, ShortList};
 
 // One step: the bucket that it writes, the slot into which a part comes there, and the bucket's seed then.
 #[derive(Clone, Copy, PartialEq, Eq, Debug, Default)]
@@ -10,5 +12,13 @@ pub struct Placing {
     pub seed: u8,
 }
 
+impl Blank for Placing {
+    ghost blank_is = { record { bucket = 0; spot = 0; seed = 0 } };
+
+    fn blank() -> Placing {
+        Placing::default()
+    }
+}
+
 // The steps, from the chain's far end: one for each move, and the last for the new part.
-pub type Plan = ArrayVec<Placing, MOST_STEPS>;
+pub type Plan = ShortList<Placing, MOST_STEPS>;

@@ -1,6 +1,6 @@
 -- What an enter leaves, once its plan is written.
 use Rattle.std.proofs.Common.{◌≡◌, ℕ, zero, suc, ◌+◌, ◌-◌, ◌%◌, ◌<◌, ◌≤◌, Bool, true, false, cond, eqb, ltb, List, [], ◌∷◌, ◌++◌, length, get_or, take, drop, Ok, Some, Option as CodeOption, sym, refl, ap, ◌∙◌, ap₂, subst, inl, inr, arith}
-use Rattle.arrayvec.specs.ArrayVec.{ArrayVec}
+use Rattle.short_list.specs.Lists.{ShortList}
 use mathlib.Core.Path.{fun_ext}
 use Rattle.std.proofs.lemmas.Bool.{cases_lt, lt-ltb, le-ltb, ne_eqb, cond-true, cond-false, and_right, or_from}
 use Rattle.std.proofs.lemmas.List.{length-take, length-drop, get_or-take, get_or-drop}
@@ -117,7 +117,7 @@ module _ {P S : Type 0} (bytes : P → List ℕ) (numbers : S → List ℕ) (has
   abbrev b : Book
   b = book_of bytes numbers m
 
-  module _ (p : ArrayVec Placing) (words : List ℕ) (is : Planned z hash kind b (length buffer) h (Ok p)) (passed : Passed z hash kind.blank b (length buffer) h words p.items) (shelf : Shelf P S) (same_sizes : shelf.sizes ≡ m.sizes)
+  module _ (p : ShortList Placing) (words : List ℕ) (is : Planned z hash kind b (length buffer) h (Ok p)) (passed : Passed z hash kind.blank b (length buffer) h words p.items) (shelf : Shelf P S) (same_sizes : shelf.sizes ≡ m.sizes)
       (same_slots : shelf.slots.now ≡ m.slots.now) (plan1 : List Placing) (same1 : plan1 ≡ p.items) where
     shown-steps : shown_steps shelf.sizes hash kind.blank (slot_in bytes numbers shelf.slots.now) plan1 h words ≡ shown_steps z hash kind.blank b.slot p.items h words
     shown-steps =

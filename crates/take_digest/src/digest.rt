@@ -5,13 +5,13 @@ ghost use Rattle.shared_notice.specs.Walks.{text_kind};
 ghost use Rattle.take_digest.specs.Digests.{write_of, limit_of, pushed, empty, digested};
 ghost use Rattle.take_digest.specs.Shows.{DigestRead};
 
-use arrayvec::ArrayVec;
 use shared::kinds::SettingKind;
 use shared::refusal::Fault;
 use shared::sizes::Sizes;
 use shared_notice::notice::walk_notice;
 use shared_text::events::StepVisitor;
 use shared_text::row::Row;
+use short_list::{Blank, ShortList};
 use std::array;
 
 // A step without its settings and places: its bucket, and its seed where it rewrites the whole bucket.
@@ -19,6 +19,16 @@ use std::array;
 pub struct Head {
     pub bucket: u16,
     pub seed: Option<u16>,
+}
+
+impl Blank for Head {
+    ghost use Rattle.std.specs.Prelude.{None};
+
+    ghost blank_is = { record { bucket = 0; seed = None } };
+
+    fn blank() -> Head {
+        Head::default()
+    }
 }
 
 // A setting for a slot, as numbers: as many of the four count as the setting kind has, and the others are 0. Numbers and no
@@ -30,14 +40,24 @@ pub struct Write {
     pub numbers: [u16; 4],
 }
 
+impl Blank for Write {
+    ghost use Rattle.std.specs.Prelude.{[], ◌∷◌};
+
+    ghost blank_is = { record { bucket = 0; slot = 0; numbers = 0 ∷ 0 ∷ 0 ∷ 0 ∷ [] } };
+
+    fn blank() -> Write {
+        Write::default()
+    }
+}
+
 // The steps and the settings seen so far, whether all numbers were inside the sizes, and where the pass is: in the step on
 // the bucket `current`, and in the row whose places follow. `inside` is a flag, and no refusal on the way, since a fault later
 // in the text is refused first.
-#[derive(Clone, PartialEq, Eq, Debug, Drop)]
+#[derive(Clone, Copy, PartialEq, Eq, Debug)]
 pub struct Digest {
     pub sizes: Sizes,
-    pub heads: ArrayVec<Head, 5>,
-    pub writes: ArrayVec<Write, 20>,
+    pub heads: ShortList<Head, 5>,
+    pub writes: ShortList<Write, 20>,
     pub inside: bool,
     pub current: u16,
     pub row: Row,
@@ -65,10 +85,12 @@ fn limit_of(sizes: Sizes, row: Row) -> u32
 }
 
 // One more, if there is room.
-fn push<T: Drop, const N: usize>(items: &mut ArrayVec<T, N>, item: T)
+fn push<T: Blank, const N: usize>(items: &mut ShortList<T, N>, item: T)
     ensures { items.new.items ≡ pushed N items.old.items item }
 {
-    let _ = items.try_push(item);
+    if items.as_slice().len() < N {
+        items.push(item);
+    }
 }
 
 impl Digest {
@@ -78,8 +100,8 @@ impl Digest {
     {
         Digest {
             sizes,
-            heads: ArrayVec::new(),
-            writes: ArrayVec::new(),
+            heads: ShortList::new(),
+            writes: ShortList::new(),
             inside: true,
             current: 0,
             row: Row::A,
