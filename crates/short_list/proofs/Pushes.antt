@@ -1,5 +1,5 @@
 -- The places behind the items stay blank when one more is written.
-use Rattle.std.proofs.Common.{◌≡◌, ℕ, ◌+◌, ◌-◌, ◌<◌, ◌≤◌, List, length, drop, replicate, slice_set, sym, ap, ◌∙◌, arith}
+use Rattle.std.proofs.Common.{◌≡◌, ℕ, ◌+◌, ◌-◌, List, drop, replicate, slice_set, sym, ap, ◌∙◌, arith}
 use Rattle.std.proofs.lemmas.List.{drop-drop, drop-set-lt, drop-replicate}
 
 pub still_blank : {T : Type 0} (n cap : ℕ) (b : T) (xs : List T) (x : T) → drop n xs ≡ replicate (cap - n) b → drop (n + 1) (slice_set xs n x) ≡ replicate (cap - (n + 1)) b

@@ -1,5 +1,5 @@
 -- A short list's items give its places back.
-use Rattle.std.proofs.Common.{◌≡◌, ℕ, ◌-◌, ◌≤◌, List, ◌++◌, length, take, drop, replicate, ap, ◌∙◌, take-append-drop, length-take-le}
+use Rattle.std.proofs.Common.{◌≡◌, ℕ, ◌-◌, ◌≤◌, List, ◌++◌, length, take, drop, replicate, take-append-drop, length-take-le}
 
 module _ {T : Type 0} (n cap : ℕ) (b : T) (xs : List T) (fits : n ≤ cap) (full : length xs ≡ cap) where
   pub length_given_back : length (take n xs) ≡ n
