@@ -7,7 +7,6 @@ use Rattle.std.proofs.lemmas.List.Elements.{contains_decides}
 use Rattle.std.proofs.Math.Seq.{take-append_seam, get_or-append_seam}
 use Rattle.std.proofs.Math.ListN.{get_or-append}
 use Rattle.std.proofs.lemmas.Bool.{cases_lt}
-use Rattle.arrayvec.specs.ArrayVec.{ArrayVec}
 use Rattle.std.proofs.lemmas.List.{reverse-append}
 use Rattle.std.proofs.lemmas.Bool.Decides.{same_from_decides, Decides-eqb, Decides-like, Decides-by_or}
 use Rattle.shared.specs.declared.sizes.Sizes.{Sizes}
@@ -155,11 +154,3 @@ picks_more is js m i pos few e p =
             subst (λ (n : ℕ). n < 4) (sym (ap₂ (λ (l : List ℕ) (q : ℕ). get_or l q 0) e last ∙ get_or-append_seam is i [] 0)) few
       ];
     }
-
--- a bucket pushed on the trail and popped again
-pub popped : (v w w' u : ArrayVec ℕ) (x : ℕ) → w.items ≡ v.items ++ (x ∷ []) → w' ≡ w → u.items ≡ take (length w'.items - 1) w'.items → u ≡ v
-popped v w w' u x e same t =
-    let f : w'.items ≡ v.items ++ (x ∷ []) = ap (λ (q : ArrayVec ℕ). q.items) same ∙ e in
-    let m : length w'.items - 1 ≡ length v.items = omega (arith, ap length f, length-append v.items (x ∷ [])) in
-    let items : u.items ≡ v.items = t ∙ ap₂ (λ (k : ℕ) (l : List ℕ). take k l) m f ∙ take-append_seam v.items (x ∷ []) in
-    ap (λ (l : List ℕ). record { items = l }) items

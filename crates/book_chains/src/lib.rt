@@ -9,7 +9,6 @@ ghost use Rattle.book_slots.specs.Spots.{Below};
 ghost use Rattle.book_chains.specs.Paths.{next_of, path_of, Picked};
 ghost use Rattle.book_chains.specs.Chains.{chain_from, chain_either, chain_of, Shaped};
 
-use arrayvec::ArrayVec;
 use book_slots::{MOST_MOVES, MOST_STEPS, Shelf, Slot};
 use shared::kinds::{HashFamily, PartKind, SettingKind};
 use shared::sizes::Sizes;
@@ -49,14 +48,13 @@ fn walk_from<F: HashFamily, P: PartKind, S: SettingKind>(
     shelf: &Shelf<'_, P, S>,
     moves: usize,
     bucket: u32,
-    trail: &mut ArrayVec<u32, MOST_STEPS>,
+    trail: &ShortList<u32, MOST_STEPS>,
 ) -> Option<ShortList<u8, MOST_MOVES>>
     requires into { bucket < shelf.now.sizes.buckets }
     requires few { moves ≤ MOST_MOVES }
-    requires room { length trail.old.items + moves ≤ MOST_STEPS }
-    ensures is { path_of result ≡ walk shelf.now.sizes (F.HashFamily.hash family.now) (slot_in P.PartKind.bytes S.SettingKind.numbers shelf.now.slots.now) moves bucket (reverse trail.old.items) }
+    requires room { length trail.now.items + moves ≤ MOST_STEPS }
+    ensures is { path_of result ≡ walk shelf.now.sizes (F.HashFamily.hash family.now) (slot_in P.PartKind.bytes S.SettingKind.numbers shelf.now.slots.now) moves bucket (reverse trail.now.items) }
     ensures low { Picked result moves }
-    ensures same { trail.new ≡ trail.old }
 {
     if moves == 0 {
         shelf.lowest_empty(bucket)?;
@@ -64,10 +62,9 @@ fn walk_from<F: HashFamily, P: PartKind, S: SettingKind>(
     }
     for (i, slot) in shelf.four(bucket).iter().enumerate() {
         if let Some(next) = next_bucket(family, shelf.sizes, slot, bucket, trail) {
-            trail.push(next);
-            let rest = walk_from(family, shelf, moves - 1, next, trail);
-            trail.pop();
-            if let Some(mut slots) = rest {
+            let mut longer = *trail;
+            longer.push(next);
+            if let Some(mut slots) = walk_from(family, shelf, moves - 1, next, &longer) {
                 slots.push(i as u8);
                 return Some(slots);
             }
@@ -88,9 +85,9 @@ fn chain_from<F: HashFamily, P: PartKind, S: SettingKind>(
     ensures is { chain_of result ≡ chain_from shelf.now.sizes (F.HashFamily.hash family.now) (slot_in P.PartKind.bytes S.SettingKind.numbers shelf.now.slots.now) first moves }
     ensures shape { Shaped result shelf.now.sizes.buckets }
 {
-    let mut trail = ArrayVec::new();
+    let mut trail = ShortList::new();
     trail.push(first);
-    let slots = walk_from(family, shelf, moves, first, &mut trail)?;
+    let slots = walk_from(family, shelf, moves, first, &trail)?;
     Some(Chain { first, slots })
 }
 

@@ -118,3 +118,11 @@ impl Blank for u8 {
         0
     }
 }
+
+impl Blank for u32 {
+    ghost blank_is = { 0 };
+
+    fn blank() -> u32 {
+        u32::MIN
+    }
+}

@@ -5,9 +5,9 @@ use Rattle.shared.specs.Lists.{◌then◌}
 use Rattle.book_slots.specs.Slots.{slot_in}
 use Rattle.book_slots.proofs.Firsts.{answer-more, answer-here, answer-none}
 use Rattle.book_chains.specs.Paths.{path_of}
-use Rattle.book_chains.proofs.Ways.{through, walk-some, walk-none, through-none, through-dead, through-live, goes, four-at, picks_more, popped}
+use Rattle.book_chains.proofs.Ways.{through, walk-some, walk-none, through-none, through-dead, through-live, goes, four-at, picks_more}
 use Rattle.book_chains.proofs.+walk_from.Goals as goal
-use Rattle.book_chains.proofs.+walk_from.Goals.{in-Some+in_default-rest, in_default}
+use Rattle.book_chains.proofs.+walk_from.Goals.{in-Some+in_default-walk_from, in_default}
 
 pub returns-in_err-lowest_empty-clause-is : goal.returns-in_err-lowest_empty-clause-is
 returns-in_err-lowest_empty-clause-is g t c =
@@ -23,8 +23,8 @@ returns-then-moves-eq0-clause-is g t c =
     ∙ ap (λ (x : Option ℕ). x then (λ i. some [])) c.in_ok-lowest_empty.ensures.is
     ∙ sym (walk-none c.args.shelf.now.sizes (g.F.HashFamily.hash c.args.family.now) slot c.args.moves c.args.bucket (reverse c.args.trail.now.items) c.if-moves-eq0.true)
 
-pub returns-in-Some-rest-clause-is : goal.returns-in-Some-rest-clause-is
-returns-in-Some-rest-clause-is g t c =
+pub returns-in-Some-walk_from-clause-is : goal.returns-in-Some-walk_from-clause-is
+returns-in-Some-walk_from-clause-is g t c =
     let pos : 0 < c.args.moves = omega (arith, c.if-moves-eq0.false) in
     let few : c.loop-i.i < 4 = omega (arith, ap length c.four-slot-items.ensures, c.loop-i-test.true) in
     let z = c.args.shelf.now.sizes in
@@ -37,17 +37,16 @@ returns-in-Some-rest-clause-is g t c =
     let j = c.args.bucket in
     let i = c.loop-i.i in
     let trail = c.args.trail.now.items in
-    let kept = ap (λ v. v.items) c.loop-i.invariant.kept in
-    let next = goes z hash slot j i _ _ trail _ (four-at bytes numbers xs j i c.slot-item.result _ c.four-slot-items.ensures few c.slot-item.is) (c.deref.ensures.0 ∙ kept) c.in-Some.ensures.is in
-    let rest = c.in-Some-rest.ensures.is ∙ ap (λ l. walk z hash slot (m - 1) c.in-Some.next (reverse l)) (c.push.ensures.items ∙ ap (λ l. l ++ (c.in-Some.next ∷ [])) kept) in
-    ap (λ l. some (reverse l)) c.push-in-Some-rest.ensures.items
-    ∙ sym (answer-here (through z hash slot (m - 1) j (reverse trail)) i 4 _ few (through-live z hash slot (m - 1) j trail i c.in-Some.next c.in-Some-rest.slots.items next rest))
-    ∙ c.loop-i.invariant.found
+    let next = goes z hash slot j i _ _ trail _ (four-at bytes numbers xs j i c.slot-item.result _ c.four-slot-items.ensures few c.slot-item.is) c.deref.ensures.0 c.in-Some.ensures.is in
+    let rest = c.in-Some-walk_from.ensures.is ∙ ap (λ l. walk z hash slot (m - 1) c.in-Some.next (reverse l)) c.push.ensures.items in
+    ap (λ l. some (reverse l)) c.push-in-Some-walk_from.ensures.items
+    ∙ sym (answer-here (through z hash slot (m - 1) j (reverse trail)) i 4 _ few (through-live z hash slot (m - 1) j trail i c.in-Some.next c.in-Some-walk_from.slots.items next rest))
+    ∙ c.loop-i.invariant
     ∙ sym (walk-some z hash slot m j (reverse trail) pos)
 
-pub returns-in-Some-rest-clause-low : goal.returns-in-Some-rest-clause-low
-returns-in-Some-rest-clause-low g t c =
-    picks_more c.in-Some-rest.slots.items _ c.args.moves c.loop-i.i (omega (arith, c.if-moves-eq0.false)) (omega (arith, ap length c.four-slot-items.ensures, c.loop-i-test.true)) c.push-in-Some-rest.ensures.items c.in-Some-rest.ensures.low
+pub returns-in-Some-walk_from-clause-low : goal.returns-in-Some-walk_from-clause-low
+returns-in-Some-walk_from-clause-low g t c =
+    picks_more c.in-Some-walk_from.slots.items _ c.args.moves c.loop-i.i (omega (arith, c.if-moves-eq0.false)) (omega (arith, ap length c.four-slot-items.ensures, c.loop-i-test.true)) c.push-in-Some-walk_from.ensures.items c.in-Some-walk_from.ensures.low
 
 pub loop-i-preserved : goal.loop-i-preserved
 loop-i-preserved g t c =
@@ -62,23 +61,15 @@ loop-i-preserved g t c =
     let j = c.args.bucket in
     let i = c.loop-i.i in
     let trail = c.args.trail.now.items in
-    let kept = ap (λ v. v.items) c.loop-i.invariant.kept in
     let read = four-at bytes numbers xs j i c.slot-item.result _ c.four-slot-items.ensures few c.slot-item.is in
-    let seen = c.deref.ensures.0 ∙ kept in
+    let seen = c.deref.ensures.0 in
     let more = answer-more (through z hash slot m j (reverse trail)) i 4 few in
     elim c.match-next_bucket.branch [
-      | in-Some+in_default-rest w ↦
+      | in-Some+in_default-walk_from w ↦
           let o = w.in-Some.next in
-          let rest = w.in_default-rest.ensures.is ∙ ap (λ l. walk z hash slot m o (reverse l)) (w.push.ensures.items ∙ ap (λ l. l ++ (o ∷ [])) kept) in
-          record {
-            kept = w.trail-is ∙ popped c.loop-i.trail _ _ _ o w.push.ensures.items w.walk_from-rest.ensures.same w.pop.ensures.rest ∙ c.loop-i.invariant.kept;
-            found = sym (more (through-dead z hash slot m j trail i o (goes z hash slot j i _ _ trail _ read seen w.in-Some.ensures.is) rest)) ∙ c.loop-i.invariant.found;
-          }
-      | in_default w ↦
-          record {
-            kept = w.trail-is ∙ c.loop-i.invariant.kept;
-            found = sym (more (through-none z hash slot m j trail i (goes z hash slot j i _ _ trail _ read seen w.in_default.ensures.is))) ∙ c.loop-i.invariant.found;
-          }
+          let rest = w.in_default-walk_from.ensures.is ∙ ap (λ l. walk z hash slot m o (reverse l)) w.push.ensures.items in
+          sym (more (through-dead z hash slot m j trail i o (goes z hash slot j i _ _ trail _ read seen w.in-Some.ensures.is) rest)) ∙ c.loop-i.invariant
+      | in_default w ↦ sym (more (through-none z hash slot m j trail i (goes z hash slot j i _ _ trail _ read seen w.in_default.ensures.is))) ∙ c.loop-i.invariant
     ]
 
 pub returns-clause-is : goal.returns-clause-is
@@ -90,5 +81,5 @@ returns-clause-is g t c =
     let slot = slot_in g.P.PartKind.bytes g.S.SettingKind.numbers c.args.shelf.now.slots.now in
     let seen = reverse c.args.trail.now.items in
     sym (answer-none (through z hash slot (c.args.moves - 1) c.args.bucket seen) c.loop-i.i 4 last)
-    ∙ c.loop-i.invariant.found
+    ∙ c.loop-i.invariant
     ∙ sym (walk-some z hash slot c.args.moves c.args.bucket seen pos)
