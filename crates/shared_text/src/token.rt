@@ -53,7 +53,9 @@ fn leading_word(text: &[u8]) -> &[u8]
     &text[..word_len(text)]
 }
 
-// The token that begins at `at`; past the text's last byte that is its end.
+// The token that begins at `at`; past the text's last byte that is its end. Inlined, so that a caller that asks for a mark
+// measures no word.
+#[inline]
 pub fn next_token(text: &[u8], at: usize) -> Token<'_>
     ensures place { place_of result ≡ at }
     ensures token { seen result ≡ token_of (drop at text.now) }

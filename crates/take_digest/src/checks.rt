@@ -16,18 +16,14 @@ fn has_bucket(bucket: u16, heads: &[Head]) -> bool
     heads.iter().any(|head| bucket == head.bucket)
 }
 
-// Whether no bucket is in two steps. A loop and no recursion: its stack does not grow with the heads.
+// Whether no bucket is in two steps.
 pub fn buckets_apart(heads: &[Head]) -> bool
     ensures { result ≡ apart (map head_bucket heads.now) }
 {
-    let mut left = heads;
-    while let [first, rest @ ..] = left {
-        if has_bucket(first.bucket, rest) {
-            return false;
-        }
-        left = rest;
+    match heads {
+        [first, rest @ ..] => !has_bucket(first.bucket, rest) && buckets_apart(rest),
+        [] => true,
     }
-    true
 }
 
 // Whether after some step more entries would be used than there are. The loop of a planned enter's spills_over: here a step
