@@ -23,8 +23,8 @@ use Rattle.book_steps.specs.declared.plan.Placing.{Placing}
 use Rattle.book_steps.specs.Plans.{placements_of, shown_steps}
 use Rattle.book_turns.specs.Turning.{TurnsAll}
 use Rattle.book_notice.specs.Lengths.{notice_length}
-use Rattle.book_enter.specs.declared.memory.Memory.{Memory}
-use Rattle.book_enter.specs.Views.{book_of}
+use Rattle.book_enter.specs.declared.reading.Reading.{Reading}
+use Rattle.book_enter.specs.Views.{book_read}
 use Rattle.book_enter.specs.Enters.{placements_for, placements_in, parts_of, Planned, Sure, Passed}
 use Rattle.book_enter.proofs.Enters.{by_plan, enter_joined, enter_planned, by_overflow, by_room, by_steps}
 use Rattle.book_enter.proofs.Memories.{loaded_words, turned-words, length-outcome}
@@ -34,13 +34,13 @@ found-some None b e = e
 found-some (Some p) b e = e
 
 -- `shelf` is the memory's
-module _ {P S : Type 0} (bytes : P → List ℕ) (numbers : S → List ℕ) (hash : Hash) (kind : Kind) (m : Memory P S) (room : ℕ) (k : Part) (v : Setting) (shelf : Shelf P S)
+module _ {P S : Type 0} (bytes : P → List ℕ) (numbers : S → List ℕ) (hash : Hash) (kind : Kind) (m : Reading P S) (room : ℕ) (k : Part) (v : Setting) (shelf : Shelf P S)
     (same_sizes : shelf.sizes ≡ m.sizes) (same_slots : shelf.slots.now ≡ m.slots.now) where
   abbrev z : Sizes
   z = m.sizes
 
   abbrev b : Book
-  b = book_of bytes numbers m
+  b = book_read bytes numbers m
 
   abbrev slots_in : List (CodeOption (CodeHeld P S)) → ℕ → ℕ → Slot
   slots_in xs = slot_in bytes numbers xs
@@ -93,13 +93,15 @@ module _ {P S : Type 0} (bytes : P → List ℕ) (numbers : S → List ℕ) (has
           pub check_overflow : spilt ≡ true → Planned z hash kind b room (k, v) (Err OverflowFull)
           check_overflow e = by_overflow z hash kind b room k v ps (spilt-is true e) ∙ goes
 
-          module _ (fits : spilt ≡ false) (first words : List ℕ) (long : length first ≡ z.a + z.b) (loaded : (q : ℕ) → q < length first → get_or first q 0 ≡ cond (row_of z.a m.row_a.now m.row_b.now q) 1 0)
-              (plan2 : List Placing) (same2 : plan2 ≡ p.items) (turned2 : TurnsAll shelf.sizes hash kind.blank (parts bytes shelf.slots.now) (placements_of (slots_in shelf.slots.now) plan2 (k, v)) first words) (len : ℕ)
-              (plan3 : List Placing) (same3 : plan3 ≡ p.items) (measured3 : (any : Kind) → len ≡ notice_length any (m.number + 1) (shown_steps shelf.sizes hash kind.blank (slots_in shelf.slots.now) plan3 (k, v) words)) where
+          -- the words that are measured are those that turning places over left
+          module _ (fits : spilt ≡ false) (first words left : List ℕ) (long : length first ≡ z.a + z.b) (loaded : (q : ℕ) → q < length first → get_or first q 0 ≡ cond (row_of z.a m.row_a.now m.row_b.now q) 1 0)
+              (plan2 : List Placing) (same2 : plan2 ≡ p.items) (turned2 : TurnsAll shelf.sizes hash kind.blank (parts bytes shelf.slots.now) (placements_of (slots_in shelf.slots.now) plan2 (k, v)) first left) (len : ℕ)
+              (plan3 : List Placing) (same3 : plan3 ≡ p.items) (measured3 : (any : Kind) → len ≡ notice_length any (m.number + 1) (shown_steps shelf.sizes hash kind.blank (slots_in shelf.slots.now) plan3 (k, v) words)) (same_words : left ≡ words) where
             turned : TurnsAll z hash kind.blank (parts bytes m.slots.now) (placements_of b.slot p.items (k, v)) first words
             turned =
                 subst (λ (l : List Placing). TurnsAll z hash kind.blank (parts bytes m.slots.now) (placements_of b.slot l (k, v)) first words) same2
-                (of_memory (λ y xs. TurnsAll y hash kind.blank (parts bytes xs) (placements_of (slots_in xs) plan2 (k, v)) first words) turned2)
+                (of_memory (λ y xs. TurnsAll y hash kind.blank (parts bytes xs) (placements_of (slots_in xs) plan2 (k, v)) first words)
+                (subst (λ (ws : List ℕ). TurnsAll shelf.sizes hash kind.blank (parts bytes shelf.slots.now) (placements_of (slots_in shelf.slots.now) plan2 (k, v)) first ws) same_words turned2))
 
             own : Words (z.a + z.b) b.row (turns z hash kind.blank (parts_of z b) b.row ps) words
             own =

@@ -6,16 +6,16 @@ ghost use Rattle.shared_notice.specs.Walks.{text_kind};
 ghost use Rattle.book_slots.specs.Slots.{held_as, parts};
 ghost use Rattle.book_joined.specs.Ends.{Ends};
 ghost use Rattle.book_turns.specs.Spaces.{Cut, SameSpace};
-ghost use Rattle.book_enter.specs.Views.{book_of};
+ghost use Rattle.book_enter.specs.Views.{book_read};
 ghost use Rattle.book_enter.specs.Enters.{Planned, Turned};
 
 use crate::along::plan_along;
-use crate::memory::Memory;
+use crate::reading::Reading;
 use book_joined::{cache_ends, mark_joined};
 use book_notice::notice_length;
 use book_slots::{Held, Shelf};
 use book_steps::plan::Plan;
-use book_turns::{Workspace, turn_places};
+use book_turns::{TurnSpace, Workspace, turn_places};
 use shared::kinds::{HashFamily, PartKind, SettingKind};
 use shared::refusal::Refusal;
 use shared_places::places_of;
@@ -42,15 +42,15 @@ fn joins_already<F: HashFamily, P: PartKind, S: SettingKind>(
 // written.
 pub fn plan_enter<F: HashFamily, P: PartKind, S: SettingKind>(
     family: &F,
-    book: &Memory<'_, P, S>,
+    book: &Reading<'_, P, S>,
     room: usize,
     held: Held<P, S>,
     space: &mut Workspace<'_>,
 ) -> Result<Plan, Refusal>
     requires cut { Cut book.now.sizes space.old }
     requires few { book.now.number < 4000000000 }
-    ensures is { Planned book.now.sizes (F.HashFamily.hash family.now) (text_kind S.SettingKind) (book_of P.PartKind.bytes S.SettingKind.numbers book.now) room (held_as P.PartKind.bytes S.SettingKind.numbers held) result }
-    ensures turned { Turned book.now.sizes (F.HashFamily.hash family.now) S.SettingKind.blanks (book_of P.PartKind.bytes S.SettingKind.numbers book.now) room (held_as P.PartKind.bytes S.SettingKind.numbers held) space.new.words.now result }
+    ensures is { Planned book.now.sizes (F.HashFamily.hash family.now) (text_kind S.SettingKind) (book_read P.PartKind.bytes S.SettingKind.numbers book.now) room (held_as P.PartKind.bytes S.SettingKind.numbers held) result }
+    ensures turned { Turned book.now.sizes (F.HashFamily.hash family.now) S.SettingKind.blanks (book_read P.PartKind.bytes S.SettingKind.numbers book.now) room (held_as P.PartKind.bytes S.SettingKind.numbers held) space.new.words.now result }
     ensures cut { Cut book.now.sizes space.new }
     ensures loans { SameSpace space.new space.old }
 {
@@ -69,7 +69,14 @@ pub fn plan_enter<F: HashFamily, P: PartKind, S: SettingKind>(
         return Err(Refusal::OverflowFull);
     }
     book.load_rows(space.words);
-    turn_places(family, &shelf, &plan, held, space);
+    // turning places over reads the ends and writes the other three
+    let turning = &mut TurnSpace {
+        words: &mut *space.words,
+        marks: &mut *space.marks,
+        ends,
+        kept: &mut *space.kept,
+    };
+    turn_places(family, &shelf, &plan, held, turning);
     // as `ends` above
     let words = &mut *space.words;
     let len = notice_length(family, &shelf, &plan, held, words, book.number + 1);

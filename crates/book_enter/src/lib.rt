@@ -5,3 +5,4 @@
 mod along;
 pub mod enter;
 pub mod memory;
+pub mod reading;

@@ -1,17 +1,11 @@
-// A book's memory, as it is lent, and what the plan of an enter reads in it.
-ghost use Rattle.std.specs.Prelude.{◌≡◌, ℕ, ◌+◌, ◌*◌, ◌/◌, ◌<◌, length, if◌then◌else◌, slice_index};
-ghost use Rattle.shared.specs.Book.{Slot as RuleSlot, Held as RuleHeld};
-ghost use Rattle.shared_table.specs.Memory.{row_of, seed_of, Sound};
-ghost use Rattle.chain_laws.specs.Plans.{spills};
-ghost use Rattle.book_steps.specs.Plans.{placements_of};
-ghost use Rattle.book_enter.specs.Enters.{Sure};
+// A book's memory, as it is lent.
+ghost use Rattle.std.specs.Prelude.{◌≡◌, ◌+◌, ◌*◌, ◌/◌, length};
+ghost use Rattle.shared_table.specs.Memory.{Sound};
 
+use crate::reading::Reading;
 use book_slots::{Shelf, Slot};
-use book_steps::plan::Placing;
 use shared::sizes::Sizes;
-use shared_bits::rows::row_bit;
-use shared_overflow::{Entry, used_after, used_in};
-use shared_table::seeds::seed_of;
+use shared_overflow::Entry;
 
 // Four slots to a bucket, the two rows' bits, a field of five bits to a bucket, the overflow entries, and the number of the
 // last notice.
@@ -43,43 +37,24 @@ impl<'a, P, S> Memory<'a, P, S> {
         }
     }
 
-    // The bit of a place of both rows, numbered as one.
-    fn bit_at(&self, place: usize) -> bool
-        requires { place < self.now.sizes.a + self.now.sizes.b }
-        ensures { result ≡ row_of self.now.sizes.a self.now.row_a.now self.now.row_b.now place }
+    // All of it, to be read.
+    pub fn reading(&self) -> Reading<'_, P, S>
+        ensures sizes { result.sizes ≡ self.now.sizes }
+        ensures slots { result.slots.now ≡ self.now.slots.now }
+        ensures row_a { result.row_a.now ≡ self.now.row_a.now }
+        ensures row_b { result.row_b.now ≡ self.now.row_b.now }
+        ensures seeds { result.seeds.now ≡ self.now.seeds.now }
+        ensures overflow { result.overflow.now ≡ self.now.overflow.now }
+        ensures number { result.number ≡ self.now.number }
     {
-        let a = self.sizes.a as usize;
-        if place < a {
-            row_bit(self.row_a, place)
-        } else {
-            row_bit(self.row_b, place - a)
+        Reading {
+            sizes: self.sizes,
+            slots: &*self.slots,
+            row_a: &*self.row_a,
+            row_b: &*self.row_b,
+            seeds: &*self.seeds,
+            overflow: &*self.overflow,
+            number: self.number,
         }
-    }
-
-    // Puts the bit of each place into its word.
-    pub(crate) fn load_rows(&self, words: &mut [u32])
-        requires { length words.old ≡ self.now.sizes.a + self.now.sizes.b }
-        ensures { (p : ℕ) → p < length words.new → slice_index words.new p ≡ (if row_of self.now.sizes.a self.now.row_a.now self.now.row_b.now p then 1 else 0) }
-    {
-        for (place, word) in words.iter_mut().enumerate() {
-            *word = u32::from(self.bit_at(place));
-        }
-    }
-
-    // Whether after some step of the plan more entries would be used than there are. The loop of take_digest's overflows_by:
-    // there a step may give no seed, and the rules count over other lists.
-    pub(crate) fn spills_over(&self, plan: &[Placing]) -> bool
-        requires { Sure self.now.sizes plan.now }
-        ensures { (slot : ℕ → ℕ → RuleSlot) (h : RuleHeld) → result ≡ spills self.now.sizes (seed_of self.now.seeds.now self.now.overflow.now) (placements_of slot plan.now h) }
-    {
-        let mut used = used_in(self.overflow);
-        for placing in plan {
-            let old = seed_of(self.seeds, self.overflow, placing.bucket as usize);
-            used = used_after(used, old, u16::from(placing.seed));
-            if used > self.sizes.overflow as usize {
-                return true;
-            }
-        }
-        false
     }
 }

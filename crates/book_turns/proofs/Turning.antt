@@ -16,8 +16,8 @@ use Rattle.book_flips.proofs.Words.{word_bit, word_low}
 use Rattle.book_flips.proofs.Turns.{turns_more, length-turns, words_stamped, words_kept}
 use Rattle.shared_places.specs.declared.Places.{Places}
 use Rattle.shared_places.specs.Places.{Placed}
-use Rattle.book_turns.specs.declared.Workspace.{Workspace}
-use Rattle.book_turns.specs.Spaces.{Cut, SameSpace}
+use Rattle.book_turns.specs.declared.TurnSpace.{TurnSpace}
+use Rattle.book_turns.specs.Spaces.{CutTurns, SameTurns}
 use Rattle.book_turns.specs.Turning.{Low, TurnsOne, Bits, TurnsAll}
 
 differ : (x y : Bool) → not (eqb (cond x 1 0) (cond y 1 0)) ≡ x ⊕ y
@@ -85,17 +85,17 @@ module _ (z : Sizes) (hash : Hash) (blank : Setting) (before : List Part) (p : �
       omega (arith, is, low, top)
 
 -- the workspace after i steps
-pub record UpTo (z : Sizes) (hash : Hash) (blank : Setting) (before : List Part) (p : ℕ → Placement) (begun : Workspace) (i : ℕ) (now : Workspace) : Type 0 where
+pub record UpTo (z : Sizes) (hash : Hash) (blank : Setting) (before : List Part) (p : ℕ → Placement) (begun : TurnSpace) (i : ℕ) (now : TurnSpace) : Type 0 where
   pub turns : TurnsAll z hash blank before (map p (up_from 0 i)) begun.words.now now.words.now
   pub ends : now.ends.now ≡ begun.ends.now
-  pub cut : Cut z now
-  pub loans : SameSpace now begun
+  pub cut : CutTurns z now
+  pub loans : SameTurns now begun
 
-module _ {z : Sizes} {hash : Hash} {blank : Setting} {before : List Part} {p : ℕ → Placement} {begun : Workspace} {i : ℕ} {now : Workspace} (u : UpTo z hash blank before p begun i now) where
-  pub up_low : Bits begun.words.now → i ≤ 5 → Cut z begun → Low now.words.now
+module _ {z : Sizes} {hash : Hash} {blank : Setting} {before : List Part} {p : ℕ → Placement} {begun : TurnSpace} {i : ℕ} {now : TurnSpace} (u : UpTo z hash blank before p begun i now) where
+  pub up_low : Bits begun.words.now → i ≤ 5 → CutTurns z begun → Low now.words.now
   up_low bits few cut = turns-low z hash blank before p i begun.words.now now.words.now u.turns bits few cut.words u.cut.words
 
-  pub up_more : {held : Held} {after : Workspace} → held ≡ (p i).held → TurnsOne z hash blank before i (p i).into held.0 now.words.now after.words.now → after.ends.now ≡ now.ends.now → Cut z after → SameSpace after now
+  pub up_more : {held : Held} {after : TurnSpace} → held ≡ (p i).held → TurnsOne z hash blank before i (p i).into held.0 now.words.now after.words.now → after.ends.now ≡ now.ends.now → CutTurns z after → SameTurns after now
       → UpTo z hash blank before p begun (i + 1) after
   up_more {held} {after} e one ends cut loans = record {
     turns = turns-on z hash blank before p i begun.words.now now.words.now u.turns held.0 after.words.now (ap (λ (x : Held). x.0) e) one;
@@ -104,7 +104,6 @@ module _ {z : Sizes} {hash : Hash} {blank : Setting} {before : List Part} {p : �
     loans = record {
       words = loans.words ∙ u.loans.words;
       marks = loans.marks ∙ u.loans.marks;
-      ends = loans.ends ∙ u.loans.ends;
       kept = loans.kept ∙ u.loans.kept;
     };
   }

@@ -8,7 +8,7 @@ ghost use Rattle.book_slots.specs.Slots.{held_as, parts, slot_in};
 ghost use Rattle.book_steps.specs.Plans.{Fit, placements_of};
 ghost use Rattle.book_joined.specs.Ends.{Ends};
 ghost use Rattle.book_turns.specs.Turning.{Low, TurnsOne, Bits, TurnsAll};
-ghost use Rattle.book_turns.specs.Spaces.{Cut, SameSpace};
+ghost use Rattle.book_turns.specs.Spaces.{CutTurns, SameTurns};
 
 use book_flips::stamp;
 use book_joined::{leave_out, mark_joined};
@@ -26,6 +26,15 @@ pub struct Workspace<'a> {
     pub words: &'a mut [u32],
     pub marks: &'a mut [u32],
     pub ends: &'a mut [[u32; 2]],
+    pub kept: &'a mut [[u32; 2]],
+}
+
+// The same of what turning places over works in: the ends are lent for reading, since it writes none.
+#[derive(Debug, Drop)]
+pub struct TurnSpace<'a> {
+    pub words: &'a mut [u32],
+    pub marks: &'a mut [u32],
+    pub ends: &'a [[u32; 2]],
     pub kept: &'a mut [[u32; 2]],
 }
 
@@ -49,22 +58,22 @@ fn turn_step<F: HashFamily, P: PartKind, S: SettingKind>(
     part: &P,
     bucket: u32,
     step: usize,
-    space: &mut Workspace<'_>,
+    space: &mut TurnSpace<'_>,
 )
     requires cached { Ends (edge shelf.now.sizes (F.HashFamily.hash family.now)) P.PartKind.bytes shelf.now.slots.now space.old.ends.now }
-    requires cut { Cut shelf.now.sizes space.old }
+    requires cut { CutTurns shelf.now.sizes space.old }
     requires few { step < 5 }
     requires low { Low space.old.words.now }
     ensures turns { TurnsOne shelf.now.sizes (F.HashFamily.hash family.now) S.SettingKind.blanks (parts P.PartKind.bytes shelf.now.slots.now) step bucket (P.PartKind.bytes part.now) space.old.words.now space.new.words.now }
     ensures ends { space.new.ends.now ≡ space.old.ends.now }
-    ensures cut { Cut shelf.now.sizes space.new }
-    ensures loans { SameSpace space.new space.old }
+    ensures cut { CutTurns shelf.now.sizes space.new }
+    ensures loans { SameTurns space.new space.old }
 {
     let places = places_of(family, shelf.sizes, part);
     // each slice is borrowed by itself: the check covers no call that reads one and is lent another
     let words = &mut *space.words;
     if must_turn(words, places, bucket) {
-        let ends = &mut *space.ends;
+        let ends = space.ends;
         let kept = &mut *space.kept;
         let marks = &mut *space.marks;
         leave_out(shelf.slots, part, ends, kept);
@@ -80,16 +89,16 @@ pub fn turn_places<F: HashFamily, P: PartKind, S: SettingKind>(
     shelf: &Shelf<'_, P, S>,
     plan: &[Placing],
     held: Held<P, S>,
-    space: &mut Workspace<'_>,
+    space: &mut TurnSpace<'_>,
 )
     requires fit { Fit shelf.now.sizes plan.now }
     requires cached { Ends (edge shelf.now.sizes (F.HashFamily.hash family.now)) P.PartKind.bytes shelf.now.slots.now space.old.ends.now }
-    requires cut { Cut shelf.now.sizes space.old }
+    requires cut { CutTurns shelf.now.sizes space.old }
     requires bits { Bits space.old.words.now }
     ensures turns { TurnsAll shelf.now.sizes (F.HashFamily.hash family.now) S.SettingKind.blanks (parts P.PartKind.bytes shelf.now.slots.now) (placements_of (slot_in P.PartKind.bytes S.SettingKind.numbers shelf.now.slots.now) plan.now (held_as P.PartKind.bytes S.SettingKind.numbers held)) space.old.words.now space.new.words.now }
     ensures ends { space.new.ends.now ≡ space.old.ends.now }
-    ensures cut { Cut shelf.now.sizes space.new }
-    ensures loans { SameSpace space.new space.old }
+    ensures cut { CutTurns shelf.now.sizes space.new }
+    ensures loans { SameTurns space.new space.old }
 {
     for (step, placing) in plan.iter().enumerate() {
         let coming = arriving(shelf, plan, step, held);

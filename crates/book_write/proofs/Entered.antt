@@ -29,7 +29,8 @@ use Rattle.book_steps.specs.Plans.{placements_of, shown_steps}
 use Rattle.book_steps.proofs.Shown.{Ranged, turns-ranged}
 use Rattle.book_notice.specs.Lengths.{notice_length, notice_bytes}
 use Rattle.book_enter.specs.declared.memory.Memory.{Memory}
-use Rattle.book_enter.specs.Views.{book_of}
+use Rattle.book_enter.specs.declared.reading.Reading.{Reading}
+use Rattle.book_enter.specs.Views.{book_of, book_read}
 use Rattle.book_enter.specs.Enters.{parts_of, Planned, Passed}
 use Rattle.book_enter.proofs.Memories.{shown-outcome}
 use Rattle.book_write.specs.Writes.{SeedsStored, RowStored, asked, CallLeft}
@@ -108,6 +109,15 @@ book_after_lem z hash blank before b ps slot row seed es er ed =
     ap₂ (λ (s : ℕ → ℕ → Slot) (r : ℕ → Bool). book_with s r seed (b.number + 1)) es er
     ∙ ap₂ (λ (d : ℕ → ℕ) (m : ℕ). book_with (slots_after b.slot ps) (row_after b.row (turns z hash blank before b.row ps)) d m) ed n
     ∙ sym (ap raised (plays z hash blank before b ps))
+
+-- what is said of the book that is read is so of the memory's
+module _ {P S : Type 0} (bytes : P → List ℕ) (numbers : S → List ℕ) (m : Memory P S) (r : Reading P S) (sizes : r.sizes ≡ m.sizes) (slots : r.slots.now ≡ m.slots.now) (row_a : r.row_a.now ≡ m.row_a.now)
+    (row_b : r.row_b.now ≡ m.row_b.now) (seeds : r.seeds.now ≡ m.seeds.now) (overflow : r.overflow.now ≡ m.overflow.now) (number : r.number ≡ m.number) where
+  same_book : book_read bytes numbers r ≡ book_of bytes numbers m
+  same_book = cc
+
+  pub of_reading : (F : Sizes → Book → Type 0) → F r.sizes (book_read bytes numbers r) → F m.sizes (book_of bytes numbers m)
+  of_reading F f = subst (λ (y : Sizes). F y (book_of bytes numbers m)) sizes (subst (λ (b : Book). F r.sizes b) same_book f)
 
 -- the enter of h into the book that the memory shows, with `shelf` the memory's
 module _ {P S : Type 0} (bytes : P → List ℕ) (numbers : S → List ℕ) (hash : Hash) (kind : Kind) (m : Memory P S) (h : Held) (buffer : List ℕ) where

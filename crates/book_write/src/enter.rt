@@ -40,7 +40,7 @@ pub fn enter_in<F: HashFamily, P: PartKind, S: SettingKind>(
     ensures cut { Cut book.new.sizes space.new }
     ensures space { SameSpace space.new space.old }
 {
-    let plan = plan_enter(family, book, notice.len(), held, space)?;
+    let plan = plan_enter(family, &book.reading(), notice.len(), held, space)?;
     let number = book.number + 1;
     // borrowed by itself, so that it is known to stay as it is while it is read
     let words = &mut *space.words;

@@ -3,7 +3,7 @@ use Rattle.shared.specs.Book.{Held, Slot}
 use Rattle.shared_table.specs.Memory.{seed_of}
 use Rattle.book_steps.specs.Plans.{placement_at}
 use Rattle.book_enter.proofs.Spills.{Counted}
-use Rattle.book_enter.proofs.memory.Memory.spills_over.Given as goal
+use Rattle.book_enter.proofs.reading.Reading.spills_over.Given as goal
 
 abbrev pub invariant-loop-placing : goal.invariant-loop-placing
 invariant-loop-placing g l =

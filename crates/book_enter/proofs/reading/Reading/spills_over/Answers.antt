@@ -2,7 +2,7 @@ use Rattle.std.proofs.Common.{ℕ, [], arith}
 use Rattle.std.proofs.Math.Option.{none}
 use Rattle.shared.specs.Book.{Slot}
 use Rattle.book_enter.proofs.Spills.{counted_some, counted_few, counted_over, counted_more}
-use Rattle.book_enter.proofs.memory.Memory.spills_over.Goals as goal
+use Rattle.book_enter.proofs.reading.Reading.spills_over.Goals as goal
 
 no_slot : ℕ → ℕ → Slot
 no_slot j i = none
