@@ -15,10 +15,15 @@ pub(crate) trait Absorb: Copy {
 }
 
 // The state after all the bytes.
+// A loop: by `fold`, four bytes of a state were packed and unpacked for each byte.
 pub(crate) fn absorb_all<A: Absorb>(start: A, bytes: &[u8]) -> A
     ensures { result ≡ fold A.Absorb.step start bytes.now }
 {
-    bytes.iter().fold(start, |state, byte| state.absorb(*byte))
+    let mut state = start;
+    for byte in bytes {
+        state = state.absorb(*byte);
+    }
+    state
 }
 
 // The start after the seed's high byte and its low byte.

@@ -7,20 +7,30 @@ ghost use Rattle.shared_families.specs.Packs.{pearson-low};
 use crate::absorb::{Absorb, absorb_part, absorb_places};
 use crate::table::table_entry;
 use shared::kinds::{HashFamily, PartKind};
-use std::array;
 
-// Each lane is a byte of the number.
+// Each lane is a byte of the number. Four fields and no array: as an array they were packed and unpacked for each byte, and a hash
+// took half as long again.
 #[derive(Clone, Copy, PartialEq, Eq, Debug)]
-struct Lanes([u8; 4]);
+struct Lanes {
+    first: u8,
+    second: u8,
+    third: u8,
+    fourth: u8,
+}
 
-const START: Lanes = Lanes([0, 1, 2, 3]);
+const START: Lanes = Lanes {
+    first: 0,
+    second: 1,
+    third: 2,
+    fourth: 3,
+};
 
 // The lanes as one number, the first most significant.
 impl From<Lanes> for u32 {
     ghost from_gives = { λ lanes number. number ≡ lanes_number lanes };
 
     fn from(lanes: Lanes) -> u32 {
-        u32::from_be_bytes(lanes.0)
+        u32::from_be_bytes([lanes.first, lanes.second, lanes.third, lanes.fourth])
     }
 }
 
@@ -28,7 +38,12 @@ impl Absorb for Lanes {
     ghost step = { lanes_step };
 
     fn absorb(self, byte: u8) -> Lanes {
-        Lanes(array::from_fn(|i| table_entry(self.0[i] ^ byte)))
+        Lanes {
+            first: table_entry(self.first ^ byte),
+            second: table_entry(self.second ^ byte),
+            third: table_entry(self.third ^ byte),
+            fourth: table_entry(self.fourth ^ byte),
+        }
     }
 }
 

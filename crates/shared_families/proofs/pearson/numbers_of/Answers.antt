@@ -11,5 +11,5 @@ mapped f d e xs ys long each =
 pub returns : goal.returns
 returns c =
     let n : length c.args.four ≡ 4 = search rules in
-    mapped lanes_number (record { 0 = [] }) 0 c.args.four c.map.result (search rules) (λ i h.
-    let given = c.map.ensures.items.at i (record { 0 = [] }) 0 (omega arith) in search rules)
+    mapped lanes_number (record { first = 0; second = 0; third = 0; fourth = 0 }) 0 c.args.four c.map.result (search rules) (λ i h.
+    let given = c.map.ensures.items.at i (record { first = 0; second = 0; third = 0; fourth = 0 }) 0 (omega arith) in search rules)
